@@ -1,0 +1,8 @@
+-- The manual, in this order.
+pub mod Measure
+pub mod Blank
+pub mod Pair
+pub mod Bounded
+pub mod Place
+pub mod Unmatched
+pub mod Walk
