@@ -1,0 +1,7 @@
+-- The manual, in this order.
+pub mod Tree
+pub mod Footprint
+pub mod Sides
+pub mod Cut
+pub mod Spot
+pub mod Over
