@@ -1,0 +1,3 @@
+-- The manual, in this order.
+pub mod Forwards
+pub mod Backwards

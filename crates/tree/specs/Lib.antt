@@ -1,0 +1,2 @@
+-- What the calls of a chunk tree say.
+pub mod Public
