@@ -1,0 +1,4 @@
+-- What the program writes for a text and its colours.
+pub mod Piles
+pub mod Rendered
+pub mod Summary
