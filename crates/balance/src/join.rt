@@ -34,7 +34,7 @@ fn link_around<R: Copy, M: Meter<Reading = R>>(
     far: Option<u16>,
 )
     requires { (a : Tree) × ((b : Tree) × (Ready memory.old near a i far b × Level a b)) }
-    ensures { (a b : Tree) → Ready memory.old near a i far b → Level a b → Linked (scale meter.now) side memory.old a i b memory.new }
+    ensures { (a b : Tree) → Ready memory.old near a i far b → Level a b → Linked (M.scale meter.now) side memory.old a i b memory.new }
 {
     match side {
         Side::Left => link(meter, memory, near, i, far),
@@ -54,7 +54,7 @@ fn rotate_once<R: Copy, M: Meter<Reading = R>>(
     short: Option<u16>,
 )
     requires { (o : Tree) × ((n : Tree) × ((b : Tree) × (Leaning memory.old side outer o k inner n i short b × (height-of n ≤ height-of o)))) }
-    ensures { (o n b : Tree) → Leaning memory.old side outer o k inner n i short b → height-of n ≤ height-of o → Joined (scale meter.now) side memory.old (around side o k n) i b memory.new (around side o k (around side n i b)) }
+    ensures { (o n b : Tree) → Leaning memory.old side outer o k inner n i short b → height-of n ≤ height-of o → Joined (M.scale meter.now) side memory.old (around side o k n) i b memory.new (around side o k (around side n i b)) }
 {
     link_around(meter, memory, side, inner, i, short);
     link_around(meter, memory, side, outer, k, Some(i));
@@ -72,7 +72,7 @@ fn rotate_twice<R: Copy, M: Meter<Reading = R>>(
     short: Option<u16>,
 )
     requires { (o : Tree) × ((x : Tree) × ((y : Tree) × ((b : Tree) × (Leaning memory.old side outer o k (Some j) (around side x j y) i short b × (height-of o < height-of (around side x j y)))))) }
-    ensures { (o x y b : Tree) → Leaning memory.old side outer o k (Some j) (around side x j y) i short b → height-of o < height-of (around side x j y) → Joined (scale meter.now) side memory.old (around side o k (around side x j y)) i b memory.new (around side (around side o k x) j (around side y i b)) }
+    ensures { (o x y b : Tree) → Leaning memory.old side outer o k (Some j) (around side x j y) i short b → height-of o < height-of (around side x j y) → Joined (M.scale meter.now) side memory.old (around side o k (around side x j y)) i b memory.new (around side (around side o k x) j (around side y i b)) }
 {
     let near = child(memory, j, side);
     let far = child(memory, j, side.other());
@@ -109,7 +109,7 @@ fn rotate<R: Copy, M: Meter<Reading = R>>(
     short: Option<u16>,
 ) -> u16
     requires { (a : Tree) × ((b : Tree) × (Ready memory.old (Some tall) a i short b × (height-of a ≡ suc (suc (height-of b))))) }
-    ensures { (a b : Tree) → Ready memory.old (Some tall) a i short b → height-of a ≡ suc (suc (height-of b)) → (t : Tree) × ((Some result ≡ root t) × Joined (scale meter.now) side memory.old a i b memory.new t) }
+    ensures { (a b : Tree) → Ready memory.old (Some tall) a i short b → height-of a ≡ suc (suc (height-of b)) → (t : Tree) × ((Some result ≡ root t) × Joined (M.scale meter.now) side memory.old a i b memory.new t) }
 {
     let outer = child(memory, tall, side);
     let inner = child(memory, tall, side.other());
@@ -135,7 +135,7 @@ fn settle<R: Copy, M: Meter<Reading = R>>(
     far: u16,
 ) -> u16
     requires { (a : Tree) × ((b : Tree) × Grown memory.old near a i (Some far) b) }
-    ensures { (a b : Tree) → Grown memory.old near a i (Some far) b → (t : Tree) × ((Some result ≡ root t) × Settled (scale meter.now) side memory.old a i b memory.new t) }
+    ensures { (a b : Tree) → Grown memory.old near a i (Some far) b → (t : Tree) × ((Some result ≡ root t) × Settled (M.scale meter.now) side memory.old a i b memory.new t) }
 {
     match top_if_higher(memory, Some(far), near, 1) {
         Some(_) => rotate(meter, memory, side.other(), far, i, near),
@@ -156,7 +156,7 @@ pub fn join<R: Copy, M: Meter<Reading = R>>(
     far: Option<u16>,
 ) -> u16
     requires { (a : Tree) × ((b : Tree) × Ready memory.old near a i far b) }
-    ensures { (a b : Tree) → Ready memory.old near a i far b → (t : Tree) × ((Some result ≡ root t) × Joined (scale meter.now) side memory.old a i b memory.new t) }
+    ensures { (a b : Tree) → Ready memory.old near a i far b → (t : Tree) × ((Some result ≡ root t) × Joined (M.scale meter.now) side memory.old a i b memory.new t) }
 {
     if let Some(k) = top_if_higher(memory, near, far, 1) {
         let outer = child(memory, k, side);

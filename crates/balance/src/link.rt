@@ -36,7 +36,7 @@ fn reading_of<R: Copy, M: Meter<Reading = R>>(
     right: Option<u16>,
 ) -> R
     requires { (l : Tree) × ((r : Tree) × Ready memory.now left l i right r) }
-    ensures { (l r : Tree) → Ready memory.now left l i right r → (w : Claim R) → Fair w (scale meter.now) → Holds w memory.now l → Holds w memory.now r → Owned w memory.now i → Says w result (text_of memory.now (node_over l i r)) }
+    ensures { (l r : Tree) → Ready memory.now left l i right r → (w : Claim R) → Fair w (M.scale meter.now) → Holds w memory.now l → Holds w memory.now r → Owned w memory.now i → Says w result (text_of memory.now (node_over l i r)) }
 {
     let slots = &*memory.slots;
     let readings = &*memory.readings;
@@ -83,7 +83,7 @@ pub fn link<R: Copy, M: Meter<Reading = R>>(
     right: Option<u16>,
 )
     requires { (l : Tree) × ((r : Tree) × (Ready memory.old left l i right r × Level l r)) }
-    ensures { (l r : Tree) → Ready memory.old left l i right r → Level l r → Linked (scale meter.now) Left memory.old l i r memory.new }
+    ensures { (l r : Tree) → Ready memory.old left l i right r → Level l r → Linked (M.scale meter.now) Left memory.old l i r memory.new }
 {
     let sum = reading_of(meter, memory, left, i, right);
     let extent = extent_over(memory, left, i, right);

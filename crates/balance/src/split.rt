@@ -17,7 +17,7 @@ pub fn split<R: Copy, M: Meter<Reading = R>>(
     at: u16,
 ) -> (Option<u16>, Option<u16>)
     requires { (t : Tree) × Held memory.old link t }
-    ensures { (t : Tree) → Held memory.old link t → (a : Tree) × ((b : Tree) × ((result.0 ≡ root a) × ((result.1 ≡ root b) × Halved (scale meter.now) memory.old t at memory.new a b))) }
+    ensures { (t : Tree) → Held memory.old link t → (a : Tree) × ((b : Tree) × ((result.0 ≡ root a) × ((result.1 ≡ root b) × Halved (M.scale meter.now) memory.old t at memory.new a b))) }
 {
     let Some(i) = link else {
         return (None, None);
@@ -44,7 +44,7 @@ pub fn append<R: Copy, M: Meter<Reading = R>>(
     rest: Option<u16>,
 ) -> Option<u16>
     requires { (a : Tree) × ((b : Tree) × Apart memory.old first a rest b) }
-    ensures { (a b : Tree) → Apart memory.old first a rest b → (t : Tree) × ((result ≡ root t) × Appended (scale meter.now) memory.old a b memory.new t) }
+    ensures { (a b : Tree) → Apart memory.old first a rest b → (t : Tree) × ((result ≡ root t) × Appended (M.scale meter.now) memory.old a b memory.new t) }
 {
     let count = extent(memory, first).chunks;
     if count == 0 {

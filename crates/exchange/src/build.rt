@@ -38,7 +38,7 @@ pub fn build<R: Copy, M: Meter<Reading = R>>(
     n: usize,
 ) -> Option<u16>
     requires { (((is : List ℕ) × (Idle memory.old is × (n ≤ length is)))) × ((count ≡ needed (length bytes.now)) × (k + n ≤ count)) }
-    ensures { (is : List ℕ) → Idle memory.old is → n ≤ length is → (t : Tree) × ((result ≡ root t) × Built (scale meter.now) memory.old is n (part bytes.now count k n) memory.new t) }
+    ensures { (is : List ℕ) → Idle memory.old is → n ≤ length is → (t : Tree) × ((result ≡ root t) × Built (M.scale meter.now) memory.old is n (part bytes.now count k n) memory.new t) }
 {
     if n == 0 {
         return None;

@@ -20,7 +20,7 @@ pub fn remove<R: Copy, M: Meter<Reading = R>>(
     to: u16,
 ) -> (Option<u16>, Option<u16>)
     requires { (((t : Tree) × ((is : List ℕ) × Whole memory.old link t is))) × (from ≤ to) }
-    ensures { (t : Tree) (is : List ℕ) → Whole memory.old link t is → (a : Tree) × ((b : Tree) × ((js : List ℕ) × (Parted memory.new result.0 a result.1 b js × Removed (scale meter.now) memory.old t from to memory.new a b))) }
+    ensures { (t : Tree) (is : List ℕ) → Whole memory.old link t is → (a : Tree) × ((b : Tree) × ((js : List ℕ) × (Parted memory.new result.0 a result.1 b js × Removed (M.scale meter.now) memory.old t from to memory.new a b))) }
 {
     let (first, behind) = split(meter, memory, link, from);
     let (middle, rest) = split(meter, memory, behind, to - from);
@@ -37,7 +37,7 @@ pub fn insert<R: Copy, M: Meter<Reading = R>>(
     bytes: &[u8],
 ) -> Option<u16>
     requires { (a : Tree) × ((b : Tree) × ((is : List ℕ) × (Parted memory.old first a rest b is × (needed (length bytes.now) ≤ length is)))) }
-    ensures { (a b : Tree) (is : List ℕ) → Parted memory.old first a rest b is → needed (length bytes.now) ≤ length is → (t : Tree) × ((js : List ℕ) × (Whole memory.new result t js × Filled (scale meter.now) memory.old a b bytes.now memory.new t)) }
+    ensures { (a b : Tree) (is : List ℕ) → Parted memory.old first a rest b is → needed (length bytes.now) ≤ length is → (t : Tree) × ((js : List ℕ) × (Whole memory.new result t js × Filled (M.scale meter.now) memory.old a b bytes.now memory.new t)) }
 {
     let count = bytes.len().div_ceil(64);
     let middle = build(meter, memory, bytes, count, 0, count);
@@ -57,7 +57,7 @@ pub fn exchange<R: Copy, M: Meter<Reading = R>>(
     requires { (Sound memory.old link) × ((from ≤ to) × ((to ≤ length (chunks-in memory.old link)) × (length (chunks-in memory.old link) - (to - from) + needed (length bytes.now) ≤ memory.old.usable))) }
     ensures sound { Sound memory.new result }
     ensures chunks { chunks-in memory.new result ≡ replaced from to (cut bytes.now) (chunks-in memory.old link) }
-    ensures keeps { Kept (scale meter.now) memory.old link → Kept (scale meter.now) memory.new result }
+    ensures keeps { Kept (M.scale meter.now) memory.old link → Kept (M.scale meter.now) memory.new result }
     ensures size { Same-size memory.old memory.new }
 {
     let (first, rest) = remove(meter, memory, link, from, to);

@@ -40,7 +40,7 @@ pub fn store_chunk<R: Copy, M: Meter<Reading = R>>(
     bytes: &[u8],
 ) -> u16
     requires { (((i : ℕ) × ((is : List ℕ) × Idle memory.old (i ∷ is)))) × (Chunk bytes.now) }
-    ensures { (i : ℕ) (is : List ℕ) → Idle memory.old (i ∷ is) → (result ≡ i) × Stored (scale meter.now) memory.old i is bytes.now memory.new }
+    ensures { (i : ℕ) (is : List ℕ) → Idle memory.old (i ∷ is) → (result ≡ i) × Stored (M.scale meter.now) memory.old i is bytes.now memory.new }
 {
     let i = take(memory);
     let own = meter.measure(bytes);

@@ -6,7 +6,7 @@ use crate::interface::Grammar;
 
 // The state behind `bytes`, read from `state` on.
 pub fn walk<G: Grammar>(grammar: &G, state: u8, bytes: &[u8]) -> u8
-    ensures { result ≡ walk_from (meaning grammar.now) state bytes.now }
+    ensures { result ≡ walk_from (G.meaning grammar.now) state bytes.now }
 {
     let mut behind = state;
     for byte in bytes {
@@ -17,8 +17,8 @@ pub fn walk<G: Grammar>(grammar: &G, state: u8, bytes: &[u8]) -> u8
 
 // Colours cells that hold bytes: each byte, read from `state` on, gives way to its class. Gives the state behind the bytes.
 pub fn colour<G: Grammar>(grammar: &G, state: u8, cells: &mut [u8]) -> u8
-    ensures behind { result ≡ walk_from (meaning grammar.now) state cells.old }
-    ensures coloured { cells.new ≡ colours-from (meaning grammar.now) state cells.old }
+    ensures behind { result ≡ walk_from (G.meaning grammar.now) state cells.old }
+    ensures coloured { cells.new ≡ colours-from (G.meaning grammar.now) state cells.old }
 {
     let mut now_in = state;
     for i in 0..cells.len() {

@@ -28,7 +28,7 @@ fn renew<R: Copy, M: Meter<Reading = R>>(
 )
     requires roomy { (Roomy memory.old) × ((i < memory.old.usable) × ((1 ≤ size_of memory.old i) × (size_of memory.old i ≤ 64))) }
     requires count_value { (count ≡ needed (length bytes.now)) × (from + count < 2 ^ 64) }
-    ensures { Renewed (scale meter.now) memory.old i n bytes.now count from (from + count) memory.new }
+    ensures { Renewed (M.scale meter.now) memory.old i n bytes.now count from (from + count) memory.new }
 {
     if n < from || from + count <= n {
         return;
@@ -49,7 +49,7 @@ pub fn rewrite<R: Copy, M: Meter<Reading = R>>(
     from: usize,
 )
     requires { (((t : Tree) × (Held memory.old link t × (n + length (slots-of t) < 2 ^ 63)))) × ((count ≡ needed (length bytes.now)) × (from + count < 2 ^ 63)) }
-    ensures { (t : Tree) → Held memory.old link t → Rewritten (scale meter.now) memory.old t n bytes.now count from (from + count) memory.new }
+    ensures { (t : Tree) → Held memory.old link t → Rewritten (M.scale meter.now) memory.old t n bytes.now count from (from + count) memory.new }
 {
     let Some(i) = link else {
         return;
@@ -80,7 +80,7 @@ pub fn overwrite<R: Copy, M: Meter<Reading = R>>(
     requires { (Sound memory.old link) × (from + needed (length bytes.now) ≤ length (chunks-in memory.old link)) }
     ensures sound { Sound memory.new link }
     ensures chunks { chunks-in memory.new link ≡ replaced from (from + needed (length bytes.now)) (cut bytes.now) (chunks-in memory.old link) }
-    ensures keeps { Kept (scale meter.now) memory.old link → Kept (scale meter.now) memory.new link }
+    ensures keeps { Kept (M.scale meter.now) memory.old link → Kept (M.scale meter.now) memory.new link }
     ensures size { Same-size memory.old memory.new }
 {
     let count = bytes.len().div_ceil(64);

@@ -22,7 +22,7 @@ pub(crate) fn fitted(states: u16) -> u8
 
 // Whether `byte` is the begin byte of a layer and is read where the grammar is open.
 pub(crate) fn begins<G: Grammar>(begin: u8, grammar: &G, state: u8, byte: u8) -> bool
-    ensures { result ≡ begins-at begin (meaning grammar.now) state byte }
+    ensures { result ≡ begins-at begin (G.meaning grammar.now) state byte }
 {
     byte == begin && grammar.is_open(state)
 }

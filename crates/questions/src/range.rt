@@ -38,7 +38,7 @@ fn chunk_reading<R: Copy, M: Meter<Reading = R>>(
     to: u32,
 ) -> R
     requires { (Roomy memory.now) × ((i < memory.now.usable) × (size_of memory.now i ≤ 64)) }
-    ensures { Owned (kept (scale meter.now)) memory.now i → result ≡ reading (scale meter.now) (between from to (chunk_of memory.now i)) }
+    ensures { Owned (kept (M.scale meter.now)) memory.now i → result ≡ reading (M.scale meter.now) (between from to (chunk_of memory.now i)) }
 {
     if from == 0 && to >= chunk_length(memory, i) as u32 {
         let slots = &*memory.slots;
@@ -56,7 +56,7 @@ fn reading_under<R: Copy, M: Meter<Reading = R>>(
     to: u32,
 ) -> R
     requires { (t : Tree) × Held memory.now link t }
-    ensures { (t : Tree) → Held memory.now link t → Holds (kept (scale meter.now)) memory.now t → result ≡ reading (scale meter.now) (between from to (text_of memory.now t)) }
+    ensures { (t : Tree) → Held memory.now link t → Holds (kept (M.scale meter.now)) memory.now t → result ≡ reading (M.scale meter.now) (between from to (text_of memory.now t)) }
 {
     let Some(i) = link else {
         return meter.empty();
@@ -98,7 +98,7 @@ pub fn range_reading<R: Copy, M: Meter<Reading = R>>(
     to: u32,
 ) -> R
     requires { Sound memory.now link }
-    ensures { Kept (scale meter.now) memory.now link → result ≡ reading (scale meter.now) (between from to (text_of memory.now (tree_of memory.now link))) }
+    ensures { Kept (M.scale meter.now) memory.now link → result ≡ reading (M.scale meter.now) (between from to (text_of memory.now (tree_of memory.now link))) }
 {
     reading_under(meter, memory, link, from, to)
 }

@@ -10,7 +10,7 @@ use std::alloc::{AllocError, Global};
 
 // The colour of each byte of `text`, in a walk that begins at the first byte.
 pub fn colours_of<G: Grammar>(heap: Global, grammar: &G, text: &[u8]) -> Result<Vec<u8>, AllocError>
-    ensures { IfOk result (λ v. v.items ≡ colours (meaning grammar.now) text.now) }
+    ensures { IfOk result (λ v. v.items ≡ colours (G.meaning grammar.now) text.now) }
 {
     let mut cells = Vec::from_slice(heap, text)?;
     colour(grammar, 0, &mut cells);
@@ -24,7 +24,7 @@ pub fn report_of<G: Grammar>(
     view: View,
     text: &[u8],
 ) -> Result<Vec<u8>, AllocError>
-    ensures { IfOk result (λ v. v.items ≡ rendered view text.now (colours (meaning grammar.now) text.now)) }
+    ensures { IfOk result (λ v. v.items ≡ rendered view text.now (colours (G.meaning grammar.now) text.now)) }
 {
     let cells = colours_of(heap, grammar, text)?;
     render(heap, view, text, &cells)

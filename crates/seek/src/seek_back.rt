@@ -28,7 +28,7 @@ fn ahead_under<R: Copy, S: Backward<Reading = R>>(
     state: S::Fore,
 ) -> S::Fore
     requires { (t : Tree) × Held memory.now link t }
-    ensures { (t : Tree) → Held memory.now link t → Holds (kept (scale search.now)) memory.now t → result ≡ forwards (fore search.now) state (text_of memory.now t) }
+    ensures { (t : Tree) → Held memory.now link t → Holds (kept (S.scale search.now)) memory.now t → result ≡ forwards (S.fore search.now) state (text_of memory.now t) }
 {
     let readings = &*memory.readings;
     match link {
@@ -47,7 +47,7 @@ fn seek_own_back<R: Copy, S: Backward<Reading = R>>(
     at: S::At,
 ) -> Stop<S::At>
     requires { (Roomy memory.now) × ((i < memory.now.usable) × (size_of memory.now i ≤ 64)) }
-    ensures { result ≡ back-stop (fore search.now) (back search.now) state (take place (chunk_of memory.now i)) at }
+    ensures { result ≡ back-stop (S.fore search.now) (S.back search.now) state (take place (chunk_of memory.now i)) at }
 {
     let bytes = chunk(memory, i);
     let to = place.min(bytes.len());
@@ -64,7 +64,7 @@ fn pass_back_under<R: Copy, S: Backward<Reading = R>>(
     at: S::At,
 ) -> Option<S::At>
     requires { (Roomy memory.now) × (i < memory.now.usable) }
-    ensures passes { (text : List ℕ) → ((d : R) → slice_index_or memory.now.readings.now i d ≡ reading-of (scale search.now) text) → PassesBack (fore search.now) (back search.now) state text at result }
+    ensures passes { (text : List ℕ) → ((d : R) → slice_index_or memory.now.readings.now i d ≡ reading-of (S.scale search.now) text) → PassesBack (S.fore search.now) (S.back search.now) state text at result }
     ensures only { is_some result ≡ true → whole ≡ true }
 {
     if !whole {
@@ -85,7 +85,7 @@ pub fn seek_back<R: Copy, S: Backward<Reading = R>>(
 ) -> Stop<S::At>
     requires { (t : Tree) × Held memory.now link t }
     ensures within { (t : Tree) → Held memory.now link t → result.passed ≤ length (take place (text_of memory.now t)) }
-    ensures finds { (t : Tree) → Held memory.now link t → Holds (kept (scale search.now)) memory.now t → result ≡ back-stop (fore search.now) (back search.now) state (take place (text_of memory.now t)) at }
+    ensures finds { (t : Tree) → Held memory.now link t → Holds (kept (S.scale search.now)) memory.now t → result ≡ back-stop (S.fore search.now) (S.back search.now) state (take place (text_of memory.now t)) at }
 {
     let bytes = extent(memory, link).bytes as usize;
     let Some(i) = link else {
@@ -145,7 +145,7 @@ pub fn seek_backwards<R: Copy, S: Backward<Reading = R>>(
 ) -> Stop<S::At>
     requires { Sound memory.now link }
     ensures within { result.passed ≤ length (take place (text_of memory.now (tree_of memory.now link))) }
-    ensures finds { Kept (scale search.now) memory.now link → result ≡ back-stop (fore search.now) (back search.now) state (take place (text_of memory.now (tree_of memory.now link))) at }
+    ensures finds { Kept (S.scale search.now) memory.now link → result ≡ back-stop (S.fore search.now) (S.back search.now) state (take place (text_of memory.now (tree_of memory.now link))) at }
 {
     seek_back(search, memory, link, state, place, at)
 }

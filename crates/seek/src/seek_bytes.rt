@@ -7,7 +7,7 @@ use search::stop::Stop;
 
 // Where the search comes to in the bytes.
 pub fn seek_bytes<S: Forward>(search: &S, at: S::At, bytes: &[u8]) -> Stop<S::At>
-    ensures { result ≡ stop (goes search.now) at bytes.now }
+    ensures { result ≡ stop (S.goes search.now) at bytes.now }
 {
     let mut now_at = at;
     for (i, byte) in bytes.iter().enumerate() {

@@ -7,7 +7,7 @@ use search::stop::Stop;
 
 // The forward state behind the bytes.
 pub fn ahead_of_bytes<S: Backward>(search: &S, state: S::Fore, bytes: &[u8]) -> S::Fore
-    ensures { result ≡ forwards (fore search.now) state bytes.now }
+    ensures { result ≡ forwards (S.fore search.now) state bytes.now }
 {
     let mut behind = state;
     for byte in bytes {
@@ -23,7 +23,7 @@ pub fn seek_bytes_back<S: Backward>(
     bytes: &[u8],
     at: S::At,
 ) -> Stop<S::At>
-    ensures { result ≡ back-stop (fore search.now) (back search.now) state bytes.now at }
+    ensures { result ≡ back-stop (S.fore search.now) (S.back search.now) state bytes.now at }
 {
     if bytes.len() == 0 {
         return Stop {

@@ -61,7 +61,7 @@ fn seek_own<R: Copy, S: Forward<Reading = R>>(
     at: S::At,
 ) -> Stop<S::At>
     requires { (Roomy memory.now) × ((i < memory.now.usable) × (size_of memory.now i ≤ 64)) }
-    ensures { result ≡ stop (goes search.now) at (drop place (chunk_of memory.now i)) }
+    ensures { result ≡ stop (S.goes search.now) at (drop place (chunk_of memory.now i)) }
 {
     let bytes = chunk(memory, i);
     let from = place.min(bytes.len());
@@ -77,7 +77,7 @@ fn pass_under<R: Copy, S: Forward<Reading = R>>(
     at: S::At,
 ) -> Option<S::At>
     requires { (Roomy memory.now) × (i < memory.now.usable) }
-    ensures { (text : List ℕ) → ((d : R) → slice_index_or memory.now.readings.now i d ≡ reading-of (scale search.now) text) → Passes (goes search.now) at (drop place text) result }
+    ensures { (text : List ℕ) → ((d : R) → slice_index_or memory.now.readings.now i d ≡ reading-of (S.scale search.now) text) → Passes (S.goes search.now) at (drop place text) result }
 {
     if place > 0 {
         return None;
@@ -96,7 +96,7 @@ pub fn seek_from<R: Copy, S: Forward<Reading = R>>(
 ) -> Stop<S::At>
     requires { (t : Tree) × Held memory.now link t }
     ensures within { (t : Tree) → Held memory.now link t → result.passed ≤ length (drop place (text_of memory.now t)) }
-    ensures finds { (t : Tree) → Held memory.now link t → Holds (kept (scale search.now)) memory.now t → result ≡ stop (goes search.now) at (drop place (text_of memory.now t)) }
+    ensures finds { (t : Tree) → Held memory.now link t → Holds (kept (S.scale search.now)) memory.now t → result ≡ stop (S.goes search.now) at (drop place (text_of memory.now t)) }
 {
     let bytes = extent(memory, link).bytes as usize;
     let Some(i) = link else {
@@ -139,7 +139,7 @@ pub fn seek<R: Copy, S: Forward<Reading = R>>(
 ) -> Stop<S::At>
     requires { Sound memory.now link }
     ensures within { result.passed ≤ length (drop place (text_of memory.now (tree_of memory.now link))) }
-    ensures finds { Kept (scale search.now) memory.now link → result ≡ stop (goes search.now) at (drop place (text_of memory.now (tree_of memory.now link))) }
+    ensures finds { Kept (S.scale search.now) memory.now link → result ≡ stop (S.goes search.now) at (drop place (text_of memory.now (tree_of memory.now link))) }
 {
     seek_from(search, memory, link, place, at)
 }

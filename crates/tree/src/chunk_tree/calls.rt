@@ -117,7 +117,7 @@ impl<R: Copy> ChunkTree<'_, R> {
 
     // The reading of the bytes from `from` up to `to`, joined from the readings that slots keep and the cut ends' own bytes.
     pub fn reading<M: Meter<Reading = R>>(&self, meter: &M, from: u32, to: u32) -> R
-        ensures { Kept-by self.now (scale meter.now) → result ≡ reading-of (scale meter.now) (between from to (joined (chunks-now self.now))) }
+        ensures { Kept-by self.now (M.scale meter.now) → result ≡ reading-of (M.scale meter.now) (between from to (joined (chunks-now self.now))) }
     {
         range_reading(meter, &self.memory, self.root, from, to)
     }
@@ -125,7 +125,7 @@ impl<R: Copy> ChunkTree<'_, R> {
     // Where a search comes to in the text from a place on: as defined, where the readings kept are those it looks into.
     pub fn seek<S: Forward<Reading = R>>(&self, search: &S, place: u32, at: S::At) -> Stop<S::At>
         ensures within { result.passed ≤ length (drop place (joined (chunks-now self.now))) }
-        ensures finds { Kept-by self.now (scale search.now) → result ≡ stop (goes search.now) at (drop place (joined (chunks-now self.now))) }
+        ensures finds { Kept-by self.now (S.scale search.now) → result ≡ stop (S.goes search.now) at (drop place (joined (chunks-now self.now))) }
     {
         seek(search, &self.memory, self.root, place as usize, at)
     }
@@ -139,7 +139,7 @@ impl<R: Copy> ChunkTree<'_, R> {
         at: S::At,
     ) -> Stop<S::At>
         ensures within { result.passed ≤ length (take place (joined (chunks-now self.now))) }
-        ensures finds { Kept-by self.now (scale search.now) → result ≡ back-stop (fore search.now) (back search.now) state (take place (joined (chunks-now self.now))) at }
+        ensures finds { Kept-by self.now (S.scale search.now) → result ≡ back-stop (S.fore search.now) (S.back search.now) state (take place (joined (chunks-now self.now))) at }
     {
         seek_backwards(search, &self.memory, self.root, state, place as usize, at)
     }
@@ -182,7 +182,7 @@ impl<R: Copy> ChunkTree<'_, R> {
     ) -> bool
         ensures answer { result ≡ replaceable self.old from to bytes.now }
         ensures chunks { chunks-now self.new ≡ (if result then replaced from to (cut bytes.now) (chunks-now self.old) else chunks-now self.old) }
-        ensures keeps { Kept-by self.old (scale meter.now) → Kept-by self.new (scale meter.now) }
+        ensures keeps { Kept-by self.old (M.scale meter.now) → Kept-by self.new (M.scale meter.now) }
         ensures size { Same-size self.old.memory self.new.memory }
         ensures same { result ≡ false → (self.new.memory ≡ self.old.memory) × (self.new.root ≡ self.old.root) }
     {

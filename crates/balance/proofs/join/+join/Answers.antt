@@ -37,7 +37,7 @@ join-requires g t c κs within =
     let m = c.args.memory.now in
     let near = height-held m ready.roomy _ _ ready.near-root ready.near-holds in
     let far = height-held m ready.roomy _ _ ready.far-root ready.far-holds in
-    let higher = c.in-Some-top-if-higher.ensures _ _ ready.far-root ready.near-root ready.far-holds ready.near-holds in
+    let higher = c.in-Some-top_if_higher.ensures _ _ ready.far-root ready.near-root ready.far-holds ready.near-holds in
     let measured = c.decreases in
     (omega (arith, higher.1), (within.0, (within.1, (c.requires.1.0, (c.requires.0, ready_turned _ _ _ _ _ _ ready)))))
 
@@ -52,17 +52,17 @@ returns-in-Some g t c a b ready =
     let done = c.settle.ensures v.o made.0 grown in
     (done.0, (done.1.0, down-joined μ _ ready v steep _ made.0 _ made.1.0 made.1.1 _ done.0 done.1.1))
 
-pub returns-in-Some-top-if-higher : goal.returns-in-Some-top-if-higher
-returns-in-Some-top-if-higher g t c a b ready =
+pub returns-in-Some-top_if_higher : goal.returns-in-Some-top_if_higher
+returns-in-Some-top_if_higher g t c a b ready =
     let μ = g.M.Meter.scale c.args.meter.now in
     let made = c.join.ensures b a (ready_turned _ _ _ _ _ _ ready) in
-    let turned = subst (λ (s : Side). Joined μ s c.args.memory.now b c.args.i a c.join.new.memory made.0) c.other-in-Some-top-if-higher.ensures made.1.1 in
+    let turned = subst (λ (s : Side). Joined μ s c.args.memory.now b c.args.i a c.join.new.memory made.0) c.other-in-Some-top_if_higher.ensures made.1.1 in
     (made.0, (made.1.0, joined-turned μ c.args.side _ a _ b _ made.0 turned))
 
-pub returns-in-default-top-if-higher : goal.returns-in-default-top-if-higher
-returns-in-default-top-if-higher g t c a b ready =
+pub returns-in_default-top_if_higher : goal.returns-in_default-top_if_higher
+returns-in_default-top_if_higher g t c a b ready =
     let μ = g.M.Meter.scale c.args.meter.now in
-    let near = c.in-default.ensures a b ready.near-root ready.far-root ready.near-holds ready.far-holds in
-    let far = c.in-default-top-if-higher.ensures b a ready.far-root ready.near-root ready.far-holds ready.near-holds in
+    let near = c.in_default.ensures a b ready.near-root ready.far-root ready.near-holds ready.far-holds in
+    let far = c.in_default-top_if_higher.ensures b a ready.far-root ready.near-root ready.far-holds ready.near-holds in
     let level : Level a b = record { left-low = omega (arith, near); right-low = omega (arith, far) } in
-    (around c.args.side a c.args.i b, (sym (root-around c.args.side a _ b), joined-linked μ c.args.side _ a _ b _ (c.link-around.ensures a b ready level)))
+    (around c.args.side a c.args.i b, (sym (root-around c.args.side a _ b), joined-linked μ c.args.side _ a _ b _ (c.link_around.ensures a b ready level)))

@@ -8,6 +8,17 @@ use Rattle.slots.proofs.Turning.{ready_turned, joined-turned}
 use Rattle.slots.proofs.Joining.{settled-linked}
 use Rattle.balance.proofs.join.settle.Goals as goal
 
+pub rotate-requires : goal.rotate-requires
+rotate-requires g c =
+    let a = c.requires.0 in
+    let b = c.requires.1.0 in
+    let grown = c.requires.1.1 in
+    let ready = grown.ready in
+    let far = grown.far-low in
+    let higher = c.in-Some.ensures b a ready.far-root ready.near-root ready.far-holds ready.near-holds in
+    let two : height b ≡ suc (suc (height a)) = omega (arith, higher.1) in
+    (b, (a, (ready_turned _ _ _ _ _ _ ready, two)))
+
 pub returns-in-Some : goal.returns-in-Some
 returns-in-Some g c a b grown =
     let μ = g.M.Meter.scale c.args.meter.now in
@@ -27,4 +38,4 @@ returns-in-None g c a b grown =
     let near = grown.near-low in
     let low = c.in-None.ensures b a ready.far-root ready.near-root ready.far-holds ready.near-holds in
     let level : Level a b = record { left-low = near; right-low = omega (arith, low) } in
-    (around c.args.side a c.args.i b, (sym (root-around c.args.side a _ b), settled-linked μ c.args.side _ a _ b _ (c.link-around.ensures a b ready level)))
+    (around c.args.side a c.args.i b, (sym (root-around c.args.side a _ b), settled-linked μ c.args.side _ a _ b _ (c.link_around.ensures a b ready level)))

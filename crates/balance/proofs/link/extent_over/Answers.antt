@@ -6,8 +6,8 @@ use Rattle.slots.proofs.Text.{size-read}
 use Rattle.slots.proofs.Linking.{over-fits, extent-over}
 use Rattle.balance.proofs.link.extent_over.Goals as goal
 
-pub overflow-add-result : goal.overflow-add-result
-overflow-add-result g c =
+pub overflow_add-result : goal.overflow_add-result
+overflow_add-result g c =
     let m = c.args.memory.now in
     let ready = c.requires.1.1 in
     let before = c.extent-before.ensures _ ready.near-root ready.near-holds in
@@ -15,8 +15,8 @@ overflow-add-result g c =
     let fits = over-fits ready (size_of m c.args.i) refl _ _ before behind c.max.result c.max.ensures in
     omega arith
 
-pub overflow-add-result-2 : goal.overflow-add-result-2
-overflow-add-result-2 g c =
+pub overflow_add-result-2 : goal.overflow_add-result-2
+overflow_add-result-2 g c =
     let m = c.args.memory.now in
     let ready = c.requires.1.1 in
     let before = c.extent-before.ensures _ ready.near-root ready.near-holds in
@@ -25,8 +25,8 @@ overflow-add-result-2 g c =
     let fits = over-fits ready _ size _ _ before behind c.max.result c.max.ensures in
     omega arith
 
-pub overflow-add-result-3 : goal.overflow-add-result-3
-overflow-add-result-3 g c =
+pub overflow_add-result-3 : goal.overflow_add-result-3
+overflow_add-result-3 g c =
     let m = c.args.memory.now in
     let ready = c.requires.1.1 in
     let before = c.extent-before.ensures _ ready.near-root ready.near-holds in
@@ -35,8 +35,8 @@ overflow-add-result-3 g c =
     let fits = over-fits ready _ size _ _ before behind c.max.result c.max.ensures in
     omega arith
 
-pub overflow-add-result-4 : goal.overflow-add-result-4
-overflow-add-result-4 g c =
+pub overflow_add-result-4 : goal.overflow_add-result-4
+overflow_add-result-4 g c =
     let m = c.args.memory.now in
     let ready = c.requires.1.1 in
     let before = c.extent-before.ensures _ ready.near-root ready.near-holds in
@@ -45,8 +45,8 @@ overflow-add-result-4 g c =
     let fits = over-fits ready _ size _ _ before behind c.max.result c.max.ensures in
     omega arith
 
-pub overflow-add-result-5 : goal.overflow-add-result-5
-overflow-add-result-5 g c =
+pub overflow_add-result-5 : goal.overflow_add-result-5
+overflow_add-result-5 g c =
     let m = c.args.memory.now in
     let ready = c.requires.1.1 in
     let before = c.extent-before.ensures _ ready.near-root ready.near-holds in

@@ -9,10 +9,10 @@ use Rattle.slots.proofs.Joining.{height-held, node-higher}
 use Rattle.slots.proofs.Splitting.{held-left, held-right, left-ready, left-halved, right-ready, right-halved, none-halved, held-open}
 use Rattle.balance.proofs.split.+split.Goals as goal
 
-pub returns-in-default : goal.returns-in-default
-returns-in-default g t c tree held =
+pub returns-in_default : goal.returns-in_default
+returns-in_default g t c tree held =
     let μ = g.M.Meter.scale c.args.meter.now in
-    (leaf, (leaf, (refl, (refl, none-halved μ held c.args.at (leaf-if-none tree (sym c.in-default.is ∙ held.root_is))))))
+    (leaf, (leaf, (refl, (refl, none-halved μ held c.args.at (leaf-if-none tree (sym c.in_default.is ∙ held.root_is))))))
 
 pub extent-before-requires : goal.extent-before-requires
 extent-before-requires g t c =

@@ -8,8 +8,8 @@ use Rattle.editing.specs.Content.{text_in}
 use Rattle.editing.proofs.Applying.{covers, forward, can-replace, replaced-is}
 use Rattle.editing.proofs.apply.replace_run.Goals as goal
 
-pub fill-middle-length-requires : goal.fill-middle-length-requires
-fill-middle-length-requires g c =
+pub fill_middle-length-requires : goal.fill_middle-length-requires
+fill_middle-length-requires g c =
     let T = c.args.tree.now in
     let covered = covers T c.args.from c.args.to c.args.bytes.now c.requires.allowed c.args.run c.requires.is in
     record { before = covered.before; forward = forward T c.args.from c.args.to c.args.bytes.now c.requires.allowed; behind = covered.behind; within = covered.within; room = c.requires.short }
@@ -19,10 +19,10 @@ returns g c =
     let T = c.args.tree.now in
     let run = c.args.run in
     let new = c.args.bytes.now in
-    let n = c.fill-middle-length.result in
-    let out = c.fill-middle-length.new.out in
+    let n = c.fill_middle-length.result in
+    let out = c.fill_middle-length.new.out in
     let same : n - 0 ≡ n = omega arith in
-    let is : take (n - 0) out ≡ middle (text_in T) run c.args.from c.args.to new = ap (λ k. take k out) same ∙ c.fill-middle-length.ensures.is in
+    let is : take (n - 0) out ≡ middle (text_in T) run c.args.from c.args.to new = ap (λ k. take k out) same ∙ c.fill_middle-length.ensures.is in
     let can = can-replace T c.args.from c.args.to new c.requires.allowed run c.requires.is (take (n - 0) out) is in
     let size = c.replace.ensures.size in
     record {

@@ -4,14 +4,14 @@ use Rattle.model.proofs.Runs.{Covers, covers-touched}
 use Rattle.model.specs.Edit.{affected}
 use Rattle.editing.proofs.plan.affected.Goals as goal
 
-pub middle-length-of-bytes-requires : goal.middle-length-of-bytes-requires
-middle-length-of-bytes-requires g c =
+pub middle_length_of-bytes-requires : goal.middle_length_of-bytes-requires
+middle_length_of-bytes-requires g c =
     let chunks = chunks-now c.args.tree.now in
     let covers = subst (Covers chunks c.args.from c.args.to) (sym c.touched-run.ensures) (covers-touched chunks c.args.from c.args.to c.requires.forward c.requires.inside) in
     record { before = covers.before; behind = covers.behind; few = c.requires.few }
 
-pub with-neighbour-requires : goal.with-neighbour-requires
-with-neighbour-requires g c =
+pub with_neighbour-requires : goal.with_neighbour-requires
+with_neighbour-requires g c =
     let chunks = chunks-now c.args.tree.now in
     let covers = subst (Covers chunks c.args.from c.args.to) (sym c.touched-run.ensures) (covers-touched chunks c.args.from c.args.to c.requires.forward c.requires.inside) in
     record { is = covers.is; ordered = covers.ordered; known = covers.known; short = c.requires.short }

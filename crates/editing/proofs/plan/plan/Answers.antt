@@ -10,21 +10,21 @@ use Rattle.editing.specs.Content.{model_in}
 use Rattle.editing.proofs.Planning.{chunks-refused, allowed, count-told}
 use Rattle.editing.proofs.plan.plan.Goals as goal
 
-pub overflow-sub-kept : goal.overflow-sub-kept
-overflow-sub-kept g c =
+pub overflow_sub-kept : goal.overflow_sub-kept
+overflow_sub-kept g c =
     let chunks = chunks-now c.args.tree.now in
     let covers = subst (Covers chunks c.args.from c.args.to) (sym c.affected-run.ensures) (covers-affected chunks c.args.from c.args.to (omega arith) (omega arith) (length c.args.bytes.now)) in
     covers.ordered
 
-pub overflow-sub-kept-2 : goal.overflow-sub-kept-2
-overflow-sub-kept-2 g c =
+pub overflow_sub-kept-2 : goal.overflow_sub-kept-2
+overflow_sub-kept-2 g c =
     let chunks = chunks-now c.args.tree.now in
     let covers = subst (Covers chunks c.args.from c.args.to) (sym c.affected-run.ensures) (covers-affected chunks c.args.from c.args.to (omega arith) (omega arith) (length c.args.bytes.now)) in
     let known = covers.known in
     omega arith
 
-pub middle-length-of-requires : goal.middle-length-of-requires
-middle-length-of-requires g c =
+pub middle_length_of-requires : goal.middle_length_of-requires
+middle_length_of-requires g c =
     let chunks = chunks-now c.args.tree.now in
     let covers = subst (Covers chunks c.args.from c.args.to) (sym c.affected-run.ensures) (covers-affected chunks c.args.from c.args.to (omega arith) (omega arith) (length c.args.bytes.now)) in
     record { before = covers.before; behind = covers.behind; few = omega arith }
@@ -34,7 +34,7 @@ returns-then-chunks-usable g c =
     let model = model_in c.args.tree.now None in
     let chunks = chunks-now c.args.tree.now in
     let new = c.args.bytes.now in
-    let count : c.chunks.result - (c.affected-run.result.last - c.affected-run.result.first) + c.div-ceil.result ≡ length (edited-chunks chunks c.args.from c.args.to new) = count-told chunks c.args.from c.args.to new c.affected-run.result c.affected-run.ensures (omega arith) (omega arith) _ c.middle-length-of.result _ c.chunks.ensures.is c.middle-length-of.ensures (omega (arith, c.div-ceil.ensures)) in
+    let count : c.chunks.result - (c.affected-run.result.last - c.affected-run.result.first) + c.div_ceil.result ≡ length (edited-chunks chunks c.args.from c.args.to new) = count-told chunks c.args.from c.args.to new c.affected-run.result c.affected-run.ensures (omega arith) (omega arith) _ c.middle_length_of.result _ c.chunks.ensures.is c.middle_length_of.ensures (omega (arith, c.div_ceil.ensures)) in
     let refused = chunks-refused model c.args.from c.args.to new (omega arith) (omega arith) (omega arith) (omega arith) in
     record { is = ap (λ n. Err (TooManyChunks n)) count ∙ sym (ap (λ o. answered o (affected chunks c.args.from c.args.to (length new))) refused); short = tt; few = tt }
 
@@ -43,7 +43,7 @@ returns g c =
     let model = model_in c.args.tree.now None in
     let chunks = chunks-now c.args.tree.now in
     let new = c.args.bytes.now in
-    let count : c.chunks.result - (c.affected-run.result.last - c.affected-run.result.first) + c.div-ceil.result ≡ length (edited-chunks chunks c.args.from c.args.to new) = count-told chunks c.args.from c.args.to new c.affected-run.result c.affected-run.ensures (omega arith) (omega arith) _ c.middle-length-of.result _ c.chunks.ensures.is c.middle-length-of.ensures (omega (arith, c.div-ceil.ensures)) in
+    let count : c.chunks.result - (c.affected-run.result.last - c.affected-run.result.first) + c.div_ceil.result ≡ length (edited-chunks chunks c.args.from c.args.to new) = count-told chunks c.args.from c.args.to new c.affected-run.result c.affected-run.ensures (omega arith) (omega arith) _ c.middle_length_of.result _ c.chunks.ensures.is c.middle_length_of.ensures (omega (arith, c.div_ceil.ensures)) in
     let passes = allowed model c.args.from c.args.to new (record { forward = omega arith; inside = omega arith; few_bytes = omega arith; few-chunks = omega arith }) in
     let short = short-middle chunks c.args.from c.args.to (omega arith) (omega arith) c.chunks.ensures.chunked (length new) in
     record {

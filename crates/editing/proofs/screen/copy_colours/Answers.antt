@@ -9,11 +9,11 @@ returns g c =
     let a = g.G.Grammar.meaning c.args.meter.now.first.grammar in
     let T = c.args.tree.now in
     let out = c.args.out.now in
-    let told = c.in-ok-copy-text.ensures in
+    let told = c.in_ok-copy_text.ensures in
     let ok = answered-ok _ tt _ (sym told.answer) in
     let range = range-passed (model_in T None) c.args.from c.args.to (length out) ok.0 in
     record {
       answer = told.answer;
-      written = λ kept. coloured-front a (text_in T) out c.copy-text.new.out c.colour.new.cells c.args.from c.args.to c.state-before-state.result range.0 range.1 (c.state-before-state.ensures kept) told.written c.colour.ensures.coloured;
+      written = λ kept. coloured-front a (text_in T) out c.copy_text.new.out c.colour.new.cells c.args.from c.args.to c.state_before-state.result range.0 range.1 (c.state_before-state.ensures kept) told.written c.colour.ensures.coloured;
       same = tt;
     }

@@ -23,19 +23,19 @@ returns g c =
     let parts = fits-parts change (length text) fit in
     let low = parts.0 in
     let high = parts.1 in
-    let moved = c.copy-within.new.self in
+    let moved = c.copy_within.new.self in
     let wide : length text ≤ length screen = omega arith in
     let old-wide : length_before change (length text) ≤ length screen = omega arith in
     record {
       answer = sym (ap (λ o. answered o tt) (paint-passes (model_in T None) change (length screen) fit wide old-wide));
       painted = λ kept.
-          let room : length (between change.place change.end moved) ≡ change.end - change.place = length-between change.place change.end moved (omega (arith, c.copy-within.ensures.len)) in
+          let room : length (between change.place change.end moved) ≡ change.end - change.place = length-between change.place change.end moved (omega (arith, c.copy_within.ensures.len)) in
           let passes = range-passes (model_in T None) change.place change.end (length (between change.place change.end moved)) (omega arith) high (omega arith) in
-          let ok = c.copy-colours.ensures.answer ∙ ap (λ o. answered o tt) passes in
-          let written = IfOk-at_ok _ ok c.copy-colours.ensures.written kept in
+          let ok = c.copy_colours.ensures.answer ∙ ap (λ o. answered o tt) passes in
+          let written = IfOk-at_ok _ ok c.copy_colours.ensures.written kept in
           let long : length (between change.place change.end (colours a text)) ≡ length (between change.place change.end moved) = length-between change.place change.end (colours a text) (omega (arith, colours-length a 0 text)) ∙ sym room in
-          painted-is a text screen moved c.copy-colours.new.out change (omega arith) high wide old-wide (omega arith)
-          (c.copy-within.ensures.after ∙ ap (λ n. paste screen change.end (drop (length_before change change.end) screen) (length_before change n - length_before change change.end)) all)
+          painted-is a text screen moved c.copy_colours.new.out change (omega arith) high wide old-wide (omega arith)
+          (c.copy_within.ensures.after ∙ ap (λ n. paste screen change.end (drop (length_before change change.end) screen) (length_before change n - length_before change change.end)) all)
           (written ∙ front-fills _ _ long);
       same = tt;
     }

@@ -23,8 +23,8 @@ returns-then-n-eq0 g t c is idle enough =
     let P : ℕ → Type 0 = λ n. Built μ c.args.memory.now is n (part c.args.bytes.now c.args.count c.args.k n) c.args.memory.now leaf in
     (leaf, (refl, subst P (sym c.if-n-eq0.true) (built-none μ idle)))
 
-pub store-chunk-i-requires : goal.store-chunk-i-requires
-store-chunk-i-requires g t c =
+pub store_chunk-i-requires : goal.store_chunk-i-requires
+store_chunk-i-requires g t c =
     let μ = g.M.Meter.scale c.args.meter.now in
     let q = c.args.count in
     let k = c.args.k in
@@ -53,7 +53,7 @@ build-right-requires g t c κs within =
     let left = c.build-left.ensures is idle (omega arith) in
     let second = second-idle μ idle h r enough left.1.1 in
     let fits = subst Chunk (sym c.chunk.ensures) (chunk-fits c.args.bytes.now q c.requires.1.0 (k + h) (omega arith)) in
-    let own = c.store-chunk-i.ensures _ _ second in
+    let own = c.store_chunk-i.ensures _ _ second in
     let third = third-idle μ idle h r enough left.1.1 fits own.1 in
     let measured = c.decreases in
     let bound = c.requires.1.1 in
@@ -73,7 +73,7 @@ join-requires g t c =
     let left = c.build-left.ensures is idle (omega arith) in
     let second = second-idle μ idle h r enough left.1.1 in
     let fits = subst Chunk (sym c.chunk.ensures) (chunk-fits c.args.bytes.now q c.requires.1.0 (k + h) (omega arith)) in
-    let own = c.store-chunk-i.ensures _ _ second in
+    let own = c.store_chunk-i.ensures _ _ second in
     let third = third-idle μ idle h r enough left.1.1 fits own.1 in
     let right = c.build-right.ensures _ third.0 third.1 in
     let i-is = own.0 in
@@ -92,7 +92,7 @@ returns g t c is idle room =
     let left = c.build-left.ensures is idle (omega arith) in
     let second = second-idle μ idle h r enough left.1.1 in
     let fits = subst Chunk (sym c.chunk.ensures) (chunk-fits c.args.bytes.now q c.requires.1.0 (k + h) (omega arith)) in
-    let own = c.store-chunk-i.ensures _ _ second in
+    let own = c.store_chunk-i.ensures _ _ second in
     let third = third-idle μ idle h r enough left.1.1 fits own.1 in
     let right = c.build-right.ensures _ third.0 third.1 in
     let i-is = own.0 in

@@ -3,15 +3,15 @@ use Rattle.chunks.specs.Cut.{begin, share}
 use Rattle.chunks.proofs.Cut.{begin-more, chunk-within}
 use Rattle.exchange.proofs.build.chunk.Goals as goal
 
-pub slice-bounds-result-count : goal.slice-bounds-result-count
-slice-bounds-result-count c =
+pub slice_bounds-result-count : goal.slice_bounds-result-count
+slice_bounds-result-count c =
     let j = length c.args.bytes.now in
     let q = c.args.count in
     let k = c.args.k in
     omega (arith, begin-more j q k, ap (begin j q) (add-one k))
 
-pub slice-bounds-result-start : goal.slice-bounds-result-start
-slice-bounds-result-start c =
+pub slice_bounds-result-start : goal.slice_bounds-result-start
+slice_bounds-result-start c =
     let j = length c.args.bytes.now in
     let q = c.args.count in
     let k = c.args.k in
@@ -22,8 +22,8 @@ slice-bounds-result-start c =
     let high : c.begin-to.result ≤ length c.args.bytes.now = omega arith in
     search rules
 
-pub slice-bounds-result-end : goal.slice-bounds-result-end
-slice-bounds-result-end c =
+pub slice_bounds-result-end : goal.slice_bounds-result-end
+slice_bounds-result-end c =
     let j = length c.args.bytes.now in
     let q = c.args.count in
     let k = c.args.k in

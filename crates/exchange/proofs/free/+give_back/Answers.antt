@@ -8,8 +8,8 @@ use Rattle.slots.proofs.Splitting.{held-left, held-open}
 use Rattle.slots.proofs.Giving.{Given-back, right-held, top-known, given-node}
 use Rattle.exchange.proofs.free.+give_back.Goals as goal
 
-pub give-back-requires : goal.give-back-requires
-give-back-requires g t c κs within =
+pub give_back-requires : goal.give_back-requires
+give_back-requires g t c κs within =
     let held = c.requires.1 in
     let v = seen Left Right refl _ _ _ c.child-left.ensures c.child-right.ensures _ (sym c.in-Some.is ∙ held.root_is) held.holds in
     let top = held-open _ _ _ held v in
@@ -20,13 +20,13 @@ give-back-requires g t c κs within =
     let measured = c.decreases in
     (omega (arith, lower.0), (within, (v.o, held-left top _ v.outer-root)))
 
-pub give-back-requires-in-Some : goal.give-back-requires-in-Some
-give-back-requires-in-Some g t c κs within =
+pub give_back-requires-in-Some : goal.give_back-requires-in-Some
+give_back-requires-in-Some g t c κs within =
     let held = c.requires.1 in
     let v = seen Left Right refl _ _ _ c.child-left.ensures c.child-right.ensures _ (sym c.in-Some.is ∙ held.root_is) held.holds in
     let top = held-open _ _ _ held v in
     let m = c.args.memory.now in
-    let first = c.give-back.ensures v.o (held-left top _ v.outer-root) in
+    let first = c.give_back.ensures v.o (held-left top _ v.outer-root) in
     let right = right-held top _ first _ v.inner-root in
     let whole = height-held m held.roomy _ _ held.root_is held.holds in
     let part = height-held _ right.roomy v.n _ v.inner-root right.holds in
@@ -39,15 +39,15 @@ give-requires g t c =
     let held = c.requires.1 in
     let v = seen Left Right refl _ _ _ c.child-left.ensures c.child-right.ensures _ (sym c.in-Some.is ∙ held.root_is) held.holds in
     let top = held-open _ _ _ held v in
-    let first = c.give-back.ensures v.o (held-left top _ v.outer-root) in
-    let second = c.give-back-in-Some.ensures v.n (right-held top _ first _ v.inner-root) in
+    let first = c.give_back.ensures v.o (held-left top _ v.outer-root) in
+    let second = c.give_back-in-Some.ensures v.n (right-held top _ first _ v.inner-root) in
     top-known top _ first _ second
 
 pub returns-in-Some : goal.returns-in-Some
 returns-in-Some g t c tree held =
     let v = seen Left Right refl _ _ _ c.child-left.ensures c.child-right.ensures _ (sym c.in-Some.is ∙ held.root_is) held.holds in
     let top = held-open _ _ _ held v in
-    let first = c.give-back.ensures v.o (held-left top _ v.outer-root) in
-    let second = c.give-back-in-Some.ensures v.n (right-held top _ first _ v.inner-root) in
+    let first = c.give_back.ensures v.o (held-left top _ v.outer-root) in
+    let second = c.give_back-in-Some.ensures v.n (right-held top _ first _ v.inner-root) in
     let all = given-node top _ first _ second _ c.give.ensures.elsewhere c.give.ensures.free c.give.ensures.next in
     subst (λ (z : Tree). Given-back c.args.memory.now z c.give.new.memory) (sym v.is) all

@@ -2,5 +2,5 @@ use Rattle.slots.specs.View.{height-at}
 use Rattle.exchange.proofs.free.+give_back.Given as goal
 
 -- Each step goes down.
-abbrev pub decreases-give-back : goal.decreases-give-back
-decreases-give-back g l = height-at l.memory.now l.link
+abbrev pub decreases-give_back : goal.decreases-give_back
+decreases-give_back g l = height-at l.memory.now l.link

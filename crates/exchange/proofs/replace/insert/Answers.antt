@@ -8,7 +8,7 @@ pub build-middle-requires : goal.build-middle-requires
 build-middle-requires g c =
     let μ = g.M.Meter.scale c.args.meter.now in
     let p = c.requires.1.1.1 in
-    let count = c.div-ceil-count.ensures in
+    let count = c.div_ceil-count.ensures in
     ((_, (parted-idle μ p.0, omega (arith, p.1))), (omega arith, omega arith))
 
 pub append-front-requires : goal.append-front-requires
@@ -20,7 +20,7 @@ append-front-requires g c =
     let is = c.requires.1.1.0 in
     let parted = c.requires.1.1.1.0 in
     let enough = c.requires.1.1.1.1 in
-    let count : c.div-ceil-count.result ≡ needed (length bytes) = omega (arith, c.div-ceil-count.ensures) in
+    let count : c.div_ceil-count.result ≡ needed (length bytes) = omega (arith, c.div_ceil-count.ensures) in
     let made = c.build-middle.ensures is (parted-idle μ parted) (omega arith) in
     let built = subst (λ n. Built μ c.args.memory.now is n (part bytes n 0 n) c.build-middle.new.memory made.0) count made.1.1 in
     (a, (made.0, front-apart μ parted bytes built _ made.1.0))
@@ -34,7 +34,7 @@ append-requires g c =
     let is = c.requires.1.1.0 in
     let parted = c.requires.1.1.1.0 in
     let enough = c.requires.1.1.1.1 in
-    let count : c.div-ceil-count.result ≡ needed (length bytes) = omega (arith, c.div-ceil-count.ensures) in
+    let count : c.div_ceil-count.result ≡ needed (length bytes) = omega (arith, c.div_ceil-count.ensures) in
     let made = c.build-middle.ensures is (parted-idle μ parted) (omega arith) in
     let built = subst (λ n. Built μ c.args.memory.now is n (part bytes n 0 n) c.build-middle.new.memory made.0) count made.1.1 in
     let front = c.append-front.ensures a made.0 (front-apart μ parted bytes built _ made.1.0) in
@@ -44,7 +44,7 @@ pub returns : goal.returns
 returns g c a b is parted enough =
     let μ = g.M.Meter.scale c.args.meter.now in
     let bytes = c.args.bytes.now in
-    let count : c.div-ceil-count.result ≡ needed (length bytes) = omega (arith, c.div-ceil-count.ensures) in
+    let count : c.div_ceil-count.result ≡ needed (length bytes) = omega (arith, c.div_ceil-count.ensures) in
     let made = c.build-middle.ensures is (parted-idle μ parted) (omega arith) in
     let built = subst (λ n. Built μ c.args.memory.now is n (part bytes n 0 n) c.build-middle.new.memory made.0) count made.1.1 in
     let front = c.append-front.ensures a made.0 (front-apart μ parted bytes built _ made.1.0) in

@@ -11,8 +11,8 @@ split-middle-requires g c =
     let made = c.split-first.ensures _ held in
     (made.1.0, held_back μ held made.1.1.1.1 _ made.1.1.1.0)
 
-pub give-back-requires : goal.give-back-requires
-give-back-requires g c =
+pub give_back-requires : goal.give_back-requires
+give_back-requires g c =
     let μ = g.M.Meter.scale c.args.meter.now in
     let held = whole-held μ c.requires.0.1.1 in
     let made = c.split-first.ensures _ held in
@@ -27,7 +27,7 @@ returns g c t is whole =
     let made = c.split-first.ensures _ held in
     let rest = held_back μ held made.1.1.1.1 _ made.1.1.1.0 in
     let next = c.split-middle.ensures _ rest in
-    let given = c.give-back.ensures _ (held-front μ rest next.1.1.1.1 _ next.1.1.0) in (
+    let given = c.give_back.ensures _ (held-front μ rest next.1.1.1.1 _ next.1.1.0) in (
       made.0,
       (
         next.1.0,

@@ -6,4 +6,4 @@ use Rattle.grammar.proofs.colouring.colour.Given as goal
 abbrev pub invariant-loop-i : goal.invariant-loop-i
 invariant-loop-i g l =
     let a = g.G.Grammar.meaning l.grammar in
-    (l.now-in ≡ walk a l.state (take l.i l.initial.cells)) × (l.cells ≡ colours-from a l.state (take l.i l.initial.cells) ++ drop l.i l.initial.cells)
+    (l.now_in ≡ walk a l.state (take l.i l.initial.cells)) × (l.cells ≡ colours-from a l.state (take l.i l.initial.cells) ++ drop l.i l.initial.cells)

@@ -16,7 +16,7 @@ rewrite-requires g c =
     let m = c.args.memory.now in
     let held = held_whole (whole-sound _ _ c.requires.0) in
     let within = c.requires.1 in
-    let count = c.div-ceil-count.ensures in
+    let count = c.div_ceil-count.ensures in
     let few = slots-few held in
     let long = length-map (slots (tree_of m c.args.link)) (chunk_of m) in
     ((_, (held, omega arith)), (omega arith, omega arith))
@@ -29,7 +29,7 @@ returns g c =
     let from = c.args.from in
     let t = tree_of m c.args.link in
     let whole = whole-sound _ _ c.requires.0 in
-    let count : c.div-ceil-count.result ≡ needed (length bytes) = omega (arith, c.div-ceil-count.ensures) in
+    let count : c.div_ceil-count.result ≡ needed (length bytes) = omega (arith, c.div_ceil-count.ensures) in
     let done = subst (λ q. Rewritten μ m t 0 bytes q from (from + q) c.rewrite.new.memory) count (c.rewrite.ensures t (held_whole whole)) in
     record {
       sound = sound-whole (overwritten-whole μ t whole bytes from c.requires.1 done);

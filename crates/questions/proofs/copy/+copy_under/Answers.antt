@@ -14,10 +14,10 @@ use Rattle.slots.proofs.Rangewise.{text-short, copy-cut, copy-rooms}
 use Rattle.slots.proofs.Pasting.{copied_none, copied-three, copied-length}
 use Rattle.questions.proofs.copy.+copy_under.Goals as goal
 
-pub returns-in-default : goal.returns-in-default
-returns-in-default g t c tree held room =
+pub returns-in_default : goal.returns-in_default
+returns-in_default g t c tree held room =
     let text = text_of c.args.memory.now tree in
-    let none = ap (text_of c.args.memory.now) (leaf-if-none tree (sym c.in-default.is ∙ held.root_is)) in
+    let none = ap (text_of c.args.memory.now) (leaf-if-none tree (sym c.in_default.is ∙ held.root_is)) in
     let nothing-there = ap (between c.args.from c.args.to) none ∙ between-past c.args.from c.args.to [] (omega arith) in
     copied_none c.args.out.now c.args.at _ nothing-there (omega arith)
 
@@ -39,8 +39,8 @@ extent-before-requires g t c =
     let left = held-left v.1.1.1 _ (c.child-left.ensures _ _ v.1.1.1.holds) in
     (held.roomy, (_, (left.root_is, left.holds)))
 
-pub overflow-add-behind : goal.overflow-add-behind
-overflow-add-behind g t c =
+pub overflow_add-behind : goal.overflow_add-behind
+overflow_add-behind g t c =
     let held = c.requires.1.0 in
     let room = c.requires.1.1 in
     let m = c.args.memory.now in
@@ -48,10 +48,10 @@ overflow-add-behind g t c =
     let left = held-left v.1.1.1 _ (c.child-left.ensures _ _ v.1.1.1.holds) in
     let before = ap (λ (x : Extent). x.bytes) (c.extent-before.ensures _ left.root_is left.holds) in
     let few = v.1.1.1.holds.0.few_bytes in
-    omega (arith, text-short left, c.chunk-length.ensures)
+    omega (arith, text-short left, c.chunk_length.ensures)
 
-pub copy-under-first-requires : goal.copy-under-first-requires
-copy-under-first-requires g t c κs within =
+pub copy_under-first-requires : goal.copy_under-first-requires
+copy_under-first-requires g t c κs within =
     let held = c.requires.1.0 in
     let room = c.requires.1.1 in
     let m = c.args.memory.now in
@@ -59,18 +59,18 @@ copy-under-first-requires g t c κs within =
     let left = held-left v.1.1.1 _ (c.child-left.ensures _ _ v.1.1.1.holds) in
     let before = ap (λ (x : Extent). x.bytes) (c.extent-before.ensures _ left.root_is left.holds) in
     let here = v.1.1.1.holds.0 in
-    let size : c.chunk-length.result ≡ length (chunk_of m c.in-Some.i) = c.chunk-length.ensures ∙ sym (chunk-length m held.roomy c.in-Some.i here.known here.few_bytes) in
-    let cut = copy-cut m v.1.1.0 c.args.from c.args.to _ _ _ _ _ _ before size c.saturating-sub-own-from.ensures c.saturating-sub-own-to.ensures c.saturating-sub-rest-from.ensures c.saturating-sub-rest-to.ensures in
+    let size : c.chunk_length.result ≡ length (chunk_of m c.in-Some.i) = c.chunk_length.ensures ∙ sym (chunk-length m held.roomy c.in-Some.i here.known here.few_bytes) in
+    let cut = copy-cut m v.1.1.0 c.args.from c.args.to _ _ _ _ _ _ before size c.saturating_sub-own_from.ensures c.saturating_sub-own_to.ensures c.saturating_sub-rest_from.ensures c.saturating_sub-rest_to.ensures in
     let out = c.args.out.now in
-    let rooms = copy-rooms m v.1.1.0 c.args.from c.args.to _ _ _ _ _ _ before size c.saturating-sub-own-from.ensures c.saturating-sub-own-to.ensures c.saturating-sub-rest-from.ensures c.saturating-sub-rest-to.ensures c.args.at (length out) room in
+    let rooms = copy-rooms m v.1.1.0 c.args.from c.args.to _ _ _ _ _ _ before size c.saturating_sub-own_from.ensures c.saturating_sub-own_to.ensures c.saturating_sub-rest_from.ensures c.saturating_sub-rest_to.ensures c.args.at (length out) room in
     let whole = height-held m held.roomy _ _ held.root_is held.holds in
     let lower = node-higher v.1.1.0 in
     let measured = c.decreases in
     let part = height-held m held.roomy _ _ left.root_is left.holds in
     (omega (arith, lower.0), (within, (_, (left, rooms.0))))
 
-pub copy-chunk-own-requires : goal.copy-chunk-own-requires
-copy-chunk-own-requires g t c =
+pub copy_chunk-own-requires : goal.copy_chunk-own-requires
+copy_chunk-own-requires g t c =
     let held = c.requires.1.0 in
     let room = c.requires.1.1 in
     let m = c.args.memory.now in
@@ -78,17 +78,17 @@ copy-chunk-own-requires g t c =
     let left = held-left v.1.1.1 _ (c.child-left.ensures _ _ v.1.1.1.holds) in
     let before = ap (λ (x : Extent). x.bytes) (c.extent-before.ensures _ left.root_is left.holds) in
     let here = v.1.1.1.holds.0 in
-    let size : c.chunk-length.result ≡ length (chunk_of m c.in-Some.i) = c.chunk-length.ensures ∙ sym (chunk-length m held.roomy c.in-Some.i here.known here.few_bytes) in
-    let cut = copy-cut m v.1.1.0 c.args.from c.args.to _ _ _ _ _ _ before size c.saturating-sub-own-from.ensures c.saturating-sub-own-to.ensures c.saturating-sub-rest-from.ensures c.saturating-sub-rest-to.ensures in
+    let size : c.chunk_length.result ≡ length (chunk_of m c.in-Some.i) = c.chunk_length.ensures ∙ sym (chunk-length m held.roomy c.in-Some.i here.known here.few_bytes) in
+    let cut = copy-cut m v.1.1.0 c.args.from c.args.to _ _ _ _ _ _ before size c.saturating_sub-own_from.ensures c.saturating_sub-own_to.ensures c.saturating_sub-rest_from.ensures c.saturating_sub-rest_to.ensures in
     let out = c.args.out.now in
-    let rooms = copy-rooms m v.1.1.0 c.args.from c.args.to _ _ _ _ _ _ before size c.saturating-sub-own-from.ensures c.saturating-sub-own-to.ensures c.saturating-sub-rest-from.ensures c.saturating-sub-rest-to.ensures c.args.at (length out) room in
-    let first = c.copy-under-first.ensures _ left rooms.0 in
+    let rooms = copy-rooms m v.1.1.0 c.args.from c.args.to _ _ _ _ _ _ before size c.saturating_sub-own_from.ensures c.saturating_sub-own_to.ensures c.saturating_sub-rest_from.ensures c.saturating_sub-rest_to.ensures c.args.at (length out) room in
+    let first = c.copy_under-first.ensures _ left rooms.0 in
     let first-long = copied-length out _ c.args.at _ _ rooms.0 first in
     let first-end = first.end_is in
     (held.roomy, (here.known, (here.few_bytes, omega (arith, rooms.1.0))))
 
-pub copy-under-requires : goal.copy-under-requires
-copy-under-requires g t c κs within =
+pub copy_under-requires : goal.copy_under-requires
+copy_under-requires g t c κs within =
     let held = c.requires.1.0 in
     let room = c.requires.1.1 in
     let m = c.args.memory.now in
@@ -96,15 +96,15 @@ copy-under-requires g t c κs within =
     let left = held-left v.1.1.1 _ (c.child-left.ensures _ _ v.1.1.1.holds) in
     let before = ap (λ (x : Extent). x.bytes) (c.extent-before.ensures _ left.root_is left.holds) in
     let here = v.1.1.1.holds.0 in
-    let size : c.chunk-length.result ≡ length (chunk_of m c.in-Some.i) = c.chunk-length.ensures ∙ sym (chunk-length m held.roomy c.in-Some.i here.known here.few_bytes) in
-    let cut = copy-cut m v.1.1.0 c.args.from c.args.to _ _ _ _ _ _ before size c.saturating-sub-own-from.ensures c.saturating-sub-own-to.ensures c.saturating-sub-rest-from.ensures c.saturating-sub-rest-to.ensures in
+    let size : c.chunk_length.result ≡ length (chunk_of m c.in-Some.i) = c.chunk_length.ensures ∙ sym (chunk-length m held.roomy c.in-Some.i here.known here.few_bytes) in
+    let cut = copy-cut m v.1.1.0 c.args.from c.args.to _ _ _ _ _ _ before size c.saturating_sub-own_from.ensures c.saturating_sub-own_to.ensures c.saturating_sub-rest_from.ensures c.saturating_sub-rest_to.ensures in
     let out = c.args.out.now in
-    let rooms = copy-rooms m v.1.1.0 c.args.from c.args.to _ _ _ _ _ _ before size c.saturating-sub-own-from.ensures c.saturating-sub-own-to.ensures c.saturating-sub-rest-from.ensures c.saturating-sub-rest-to.ensures c.args.at (length out) room in
-    let first = c.copy-under-first.ensures _ left rooms.0 in
+    let rooms = copy-rooms m v.1.1.0 c.args.from c.args.to _ _ _ _ _ _ before size c.saturating_sub-own_from.ensures c.saturating_sub-own_to.ensures c.saturating_sub-rest_from.ensures c.saturating_sub-rest_to.ensures c.args.at (length out) room in
+    let first = c.copy_under-first.ensures _ left rooms.0 in
     let first-long = copied-length out _ c.args.at _ _ rooms.0 first in
     let first-end = first.end_is in
-    let own = c.copy-chunk-own.ensures in
-    let own-long = copied-length c.copy-under-first.new.out _ _ _ _ (omega (arith, rooms.1.0)) own in
+    let own = c.copy_chunk-own.ensures in
+    let own-long = copied-length c.copy_under-first.new.out _ _ _ _ (omega (arith, rooms.1.0)) own in
     let own-end = own.end_is in
     let right = held-right v.1.1.1 _ (c.child-right.ensures _ _ v.1.1.1.holds) in
     let whole = height-held m held.roomy _ _ held.root_is held.holds in
@@ -120,17 +120,17 @@ returns g t c tree held room =
     let left = held-left v.1.1.1 _ (c.child-left.ensures _ _ v.1.1.1.holds) in
     let before = ap (λ (x : Extent). x.bytes) (c.extent-before.ensures _ left.root_is left.holds) in
     let here = v.1.1.1.holds.0 in
-    let size : c.chunk-length.result ≡ length (chunk_of m c.in-Some.i) = c.chunk-length.ensures ∙ sym (chunk-length m held.roomy c.in-Some.i here.known here.few_bytes) in
-    let cut = copy-cut m v.1.1.0 c.args.from c.args.to _ _ _ _ _ _ before size c.saturating-sub-own-from.ensures c.saturating-sub-own-to.ensures c.saturating-sub-rest-from.ensures c.saturating-sub-rest-to.ensures in
+    let size : c.chunk_length.result ≡ length (chunk_of m c.in-Some.i) = c.chunk_length.ensures ∙ sym (chunk-length m held.roomy c.in-Some.i here.known here.few_bytes) in
+    let cut = copy-cut m v.1.1.0 c.args.from c.args.to _ _ _ _ _ _ before size c.saturating_sub-own_from.ensures c.saturating_sub-own_to.ensures c.saturating_sub-rest_from.ensures c.saturating_sub-rest_to.ensures in
     let out = c.args.out.now in
-    let rooms = copy-rooms m v.1.1.0 c.args.from c.args.to _ _ _ _ _ _ before size c.saturating-sub-own-from.ensures c.saturating-sub-own-to.ensures c.saturating-sub-rest-from.ensures c.saturating-sub-rest-to.ensures c.args.at (length out) room in
-    let first = c.copy-under-first.ensures _ left rooms.0 in
+    let rooms = copy-rooms m v.1.1.0 c.args.from c.args.to _ _ _ _ _ _ before size c.saturating_sub-own_from.ensures c.saturating_sub-own_to.ensures c.saturating_sub-rest_from.ensures c.saturating_sub-rest_to.ensures c.args.at (length out) room in
+    let first = c.copy_under-first.ensures _ left rooms.0 in
     let first-long = copied-length out _ c.args.at _ _ rooms.0 first in
     let first-end = first.end_is in
-    let own = c.copy-chunk-own.ensures in
-    let own-long = copied-length c.copy-under-first.new.out _ _ _ _ (omega (arith, rooms.1.0)) own in
+    let own = c.copy_chunk-own.ensures in
+    let own-long = copied-length c.copy_under-first.new.out _ _ _ _ (omega (arith, rooms.1.0)) own in
     let own-end = own.end_is in
     let right = held-right v.1.1.1 _ (c.child-right.ensures _ _ v.1.1.1.holds) in
-    let rest = c.copy-under.ensures _ right (omega (arith, rooms.1.1)) in
+    let rest = c.copy_under.ensures _ right (omega (arith, rooms.1.1)) in
     let all = copied-three out _ _ _ c.args.at _ _ _ _ _ _ rooms.1.1 first own rest in
-    subst (λ (l : List ℕ). Copied l out c.args.at c.copy-under.new.out c.copy-under.result) (sym cut) all
+    subst (λ (l : List ℕ). Copied l out c.args.at c.copy_under.new.out c.copy_under.result) (sym cut) all

@@ -15,8 +15,8 @@ extent-before-requires g t c =
     let v = sides c.in-Some.is held in
     (held.roomy, (v.0, (c.child-left.ensures _ _ v.1.1.1.holds, v.1.1.1.holds.1.0)))
 
-pub spot-under-requires : goal.spot-under-requires
-spot-under-requires g t c κs within =
+pub spot_under-requires : goal.spot_under-requires
+spot_under-requires g t c κs within =
     let held = c.requires.1 in
     let v = sides c.in-Some.is held in
     let before = c.extent-before.ensures v.0 (c.child-left.ensures _ _ v.1.1.1.holds) v.1.1.1.holds.1.0 in
@@ -33,16 +33,16 @@ returns-then-place-before g t c tree held =
     let v = sides c.in-Some.is held in
     let before = c.extent-before.ensures v.0 (c.child-left.ensures _ _ v.1.1.1.holds) v.1.1.1.holds.1.0 in
     let left = held-left v.1.1.1 _ (c.child-left.ensures _ _ v.1.1.1.holds) in
-    c.spot-under.ensures _ left ∙ spot-on-left v.1.1.1 _ before c.args.place c.if-place-before.true ∙ ap (λ (z : Tree). spot_in (chunks_of c.args.memory.now z) c.args.place) (sym v.1.1.0)
+    c.spot_under.ensures _ left ∙ spot-on-left v.1.1.1 _ before c.args.place c.if-place-before.true ∙ ap (λ (z : Tree). spot_in (chunks_of c.args.memory.now z) c.args.place) (sym v.1.1.0)
 
 pub returns-then-inside-own : goal.returns-then-inside-own
 returns-then-inside-own g t c tree held =
     let v = sides c.in-Some.is held in
     let before = c.extent-before.ensures v.0 (c.child-left.ensures _ _ v.1.1.1.holds) v.1.1.1.holds.1.0 in
-    spot-in-own v.1.1.1 _ before c.args.place (omega arith) _ c.chunk-length-size.ensures (omega arith) ∙ ap (λ (z : Tree). spot_in (chunks_of c.args.memory.now z) c.args.place) (sym v.1.1.0)
+    spot-in-own v.1.1.1 _ before c.args.place (omega arith) _ c.chunk_length-size.ensures (omega arith) ∙ ap (λ (z : Tree). spot_in (chunks_of c.args.memory.now z) c.args.place) (sym v.1.1.0)
 
-pub spot-under-rest-requires : goal.spot-under-rest-requires
-spot-under-rest-requires g t c κs within =
+pub spot_under-rest-requires : goal.spot_under-rest-requires
+spot_under-rest-requires g t c κs within =
     let held = c.requires.1 in
     let v = sides c.in-Some.is held in
     let before = c.extent-before.ensures v.0 (c.child-left.ensures _ _ v.1.1.1.holds) v.1.1.1.holds.1.0 in
@@ -54,26 +54,26 @@ spot-under-rest-requires g t c κs within =
     let part = height-held m held.roomy _ _ right.root_is right.holds in
     (omega (arith, lower.1), (within, (_, right)))
 
-pub overflow-add-result : goal.overflow-add-result
-overflow-add-result g t c =
+pub overflow_add-result : goal.overflow_add-result
+overflow_add-result g t c =
     let held = c.requires.1 in
     let v = sides c.in-Some.is held in
     let before = c.extent-before.ensures v.0 (c.child-left.ensures _ _ v.1.1.1.holds) v.1.1.1.holds.1.0 in
     let right = held-right v.1.1.1 _ (c.child.ensures _ _ v.1.1.1.holds) in
-    omega (arith, spot-fits v.1.1.1 _ before c.args.place (omega arith) _ _ (c.spot-under-rest.ensures _ right))
+    omega (arith, spot-fits v.1.1.1 _ before c.args.place (omega arith) _ _ (c.spot_under-rest.ensures _ right))
 
-pub overflow-add-result-2 : goal.overflow-add-result-2
-overflow-add-result-2 g t c =
+pub overflow_add-result-2 : goal.overflow_add-result-2
+overflow_add-result-2 g t c =
     let held = c.requires.1 in
     let v = sides c.in-Some.is held in
     let before = c.extent-before.ensures v.0 (c.child-left.ensures _ _ v.1.1.1.holds) v.1.1.1.holds.1.0 in
     let right = held-right v.1.1.1 _ (c.child.ensures _ _ v.1.1.1.holds) in
-    omega (arith, spot-fits v.1.1.1 _ before c.args.place (omega arith) _ _ (c.spot-under-rest.ensures _ right))
+    omega (arith, spot-fits v.1.1.1 _ before c.args.place (omega arith) _ _ (c.spot_under-rest.ensures _ right))
 
 pub returns : goal.returns
 returns g t c tree held =
     let v = sides c.in-Some.is held in
     let before = c.extent-before.ensures v.0 (c.child-left.ensures _ _ v.1.1.1.holds) v.1.1.1.holds.1.0 in
     let right = held-right v.1.1.1 _ (c.child.ensures _ _ v.1.1.1.holds) in
-    spot-on-right v.1.1.1 _ before c.args.place (omega arith) _ c.chunk-length-size.ensures (omega arith) _ (c.spot-under-rest.ensures _ right)
+    spot-on-right v.1.1.1 _ before c.args.place (omega arith) _ c.chunk_length-size.ensures (omega arith) _ (c.spot_under-rest.ensures _ right)
     ∙ ap (λ (z : Tree). spot_in (chunks_of c.args.memory.now z) c.args.place) (sym v.1.1.0)

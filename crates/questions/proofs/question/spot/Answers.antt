@@ -10,15 +10,15 @@ use Rattle.slots.proofs.Reading.{whole-sound}
 use Rattle.slots.proofs.Replacing.{held_whole}
 use Rattle.questions.proofs.question.spot.Goals as goal
 
-pub spot-under-requires : goal.spot-under-requires
-spot-under-requires g c = (_, held_whole (whole-sound _ _ c.requires))
+pub spot_under-requires : goal.spot_under-requires
+spot_under-requires g c = (_, held_whole (whole-sound _ _ c.requires))
 
 pub returns : goal.returns
 returns g c =
     let m = c.args.memory.now in
     let t = tree_of m c.args.link in
     let held = held_whole (whole-sound m c.args.link c.requires) in
-    let is = c.spot-under.ensures t held in
+    let is = c.spot_under.ensures t held in
     record {
       is = is;
       few = omega (arith, ap (λ (s : Spot). s.chunk) is, spot-few (chunks_of m t) c.args.place, length-map (slots t) (chunk_of m), few-below m.usable (slots t) held.once, held.roomy.few);

@@ -15,10 +15,10 @@ use Rattle.slots.proofs.Ranges.{between-all, between_none, between-past}
 use Rattle.slots.proofs.Rangewise.{text-short, range-joined, kept_top}
 use Rattle.questions.proofs.range.+reading_under.Goals as goal
 
-pub returns-in-default : goal.returns-in-default
-returns-in-default g t c tree held h =
+pub returns-in_default : goal.returns-in_default
+returns-in_default g t c tree held h =
     let μ = g.M.Meter.scale c.args.meter.now in
-    let none = ap (text_of c.args.memory.now) (leaf-if-none tree (sym c.in-default.is ∙ held.root_is)) in
+    let none = ap (text_of c.args.memory.now) (leaf-if-none tree (sym c.in_default.is ∙ held.root_is)) in
     c.empty.ensures ∙ ap (reading μ) (sym (ap (between c.args.from c.args.to) none ∙ between-past c.args.from c.args.to [] (omega arith)))
 
 pub returns-then-from-to : goal.returns-then-from-to
@@ -46,17 +46,17 @@ extent-before-requires g t c =
     let left = held-left v.1.1.1 _ (c.child-left.ensures _ _ v.1.1.1.holds) in
     (held.roomy, (_, (left.root_is, left.holds)))
 
-pub overflow-add-behind : goal.overflow-add-behind
-overflow-add-behind g t c =
+pub overflow_add-behind : goal.overflow_add-behind
+overflow_add-behind g t c =
     let held = c.requires.1 in
     let v = sides c.in-Some.is held in
     let left = held-left v.1.1.1 _ (c.child-left.ensures _ _ v.1.1.1.holds) in
     let before = ap (λ (x : Extent). x.bytes) (c.extent-before.ensures _ left.root_is left.holds) in
     let few = v.1.1.1.holds.0.few_bytes in
-    omega (arith, text-short left, c.chunk-length.ensures)
+    omega (arith, text-short left, c.chunk_length.ensures)
 
-pub reading-under-first-requires : goal.reading-under-first-requires
-reading-under-first-requires g t c κs within =
+pub reading_under-first-requires : goal.reading_under-first-requires
+reading_under-first-requires g t c κs within =
     let held = c.requires.1 in
     let v = sides c.in-Some.is held in
     let left = held-left v.1.1.1 _ (c.child-left.ensures _ _ v.1.1.1.holds) in
@@ -68,8 +68,8 @@ reading-under-first-requires g t c κs within =
     let part = height-held m held.roomy _ _ left.root_is left.holds in
     (omega (arith, lower.0), (within.0, (within.1, (_, left))))
 
-pub reading-under-rest-requires : goal.reading-under-rest-requires
-reading-under-rest-requires g t c κs within =
+pub reading_under-rest-requires : goal.reading_under-rest-requires
+reading_under-rest-requires g t c κs within =
     let held = c.requires.1 in
     let v = sides c.in-Some.is held in
     let right = held-right v.1.1.1 _ (c.child.ensures _ _ v.1.1.1.holds) in
@@ -93,11 +93,11 @@ returns g t c tree held h =
     let right = held-right v.1.1.1 _ (c.child.ensures _ _ v.1.1.1.holds) in
     let keeps : Holds (kept μ) m (node v.0 c.in-Some.i v.1.0) = subst (Holds (kept μ) m) v.1.1.0 h in
     let here = v.1.1.1.holds.0 in
-    let size : c.chunk-length.result ≡ length (chunk_of m c.in-Some.i) = c.chunk-length.ensures ∙ sym (chunk-length m held.roomy c.in-Some.i here.known here.few_bytes) in
+    let size : c.chunk_length.result ≡ length (chunk_of m c.in-Some.i) = c.chunk_length.ensures ∙ sym (chunk-length m held.roomy c.in-Some.i here.known here.few_bytes) in
     range-joined μ lawful m v.0 c.in-Some.i v.1.0 from to _ _ _ _ _ _ before size
-    c.saturating-sub-own-from.ensures c.saturating-sub-own-to.ensures c.saturating-sub-rest-from.ensures c.saturating-sub-rest-to.ensures _ _ _ _ _
-    (c.reading-under-first.ensures v.0 left keeps.1.0)
-    (c.chunk-reading-own.ensures (record { own = λ d. (keeps.0.placed d).own }))
-    (c.reading-under-rest.ensures v.1.0 right keeps.1.1)
+    c.saturating_sub-own_from.ensures c.saturating_sub-own_to.ensures c.saturating_sub-rest_from.ensures c.saturating_sub-rest_to.ensures _ _ _ _ _
+    (c.reading_under-first.ensures v.0 left keeps.1.0)
+    (c.chunk_reading-own.ensures (record { own = λ d. (keeps.0.placed d).own }))
+    (c.reading_under-rest.ensures v.1.0 right keeps.1.1)
     c.join-front.ensures c.join.ensures
     ∙ ap (λ (z : Tree). reading μ (between from to (text_of m z))) (sym v.1.1.0)

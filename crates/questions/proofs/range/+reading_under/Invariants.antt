@@ -2,5 +2,5 @@ use Rattle.slots.specs.View.{height-at}
 use Rattle.questions.proofs.range.+reading_under.Given as goal
 
 -- Each step goes down.
-abbrev pub decreases-reading-under : goal.decreases-reading-under
-decreases-reading-under g l = height-at l.memory.now l.link
+abbrev pub decreases-reading_under : goal.decreases-reading_under
+decreases-reading_under g l = height-at l.memory.now l.link

@@ -9,7 +9,7 @@ returns g c =
     let m = c.args.memory.now in
     let rest = drop (64 * c.args.i) m.store.now in
     let own = size_of m c.args.i in
-    let end : c.min-end.result ≡ min c.args.to own = c.min-end.ensures ∙ ap (min c.args.to) c.chunk-length-own.ensures in
+    let end : c.min-end.result ≡ min c.args.to own = c.min-end.ensures ∙ ap (min c.args.to) c.chunk_length-own.ensures in
     let begin : c.min-begin.result ≡ min c.args.from (min c.args.to own) = c.min-begin.ensures ∙ ap (min c.args.from) end in
     between-from (64 * c.args.i) c.min-begin.result c.min-end.result m.store.now
     ∙ ap (λ n. between n c.min-end.result rest) begin

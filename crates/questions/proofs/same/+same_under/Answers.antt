@@ -14,9 +14,9 @@ use Rattle.slots.proofs.Rangewise.{text-short, copy-cut, copy-rooms}
 use Rattle.slots.proofs.Comparing.{compared-none, first-differs, own-differs, compared-three}
 use Rattle.questions.proofs.same.+same_under.Goals as goal
 
-pub returns-in-default : goal.returns-in-default
-returns-in-default g t c tree held room =
-    let none = ap (text_of c.args.memory.now) (leaf-if-none tree (sym c.in-default.is ∙ held.root_is)) in
+pub returns-in_default : goal.returns-in_default
+returns-in_default g t c tree held room =
+    let none = ap (text_of c.args.memory.now) (leaf-if-none tree (sym c.in_default.is ∙ held.root_is)) in
     compared-none _ c.args.given.now c.args.at (ap (between c.args.from c.args.to) none ∙ between-past c.args.from c.args.to [] (omega arith))
 
 pub returns-then-from-to : goal.returns-then-from-to
@@ -37,8 +37,8 @@ extent-before-requires g t c =
     let left = held-left v.1.1.1 _ (c.child-left.ensures _ _ v.1.1.1.holds) in
     (held.roomy, (_, (left.root_is, left.holds)))
 
-pub overflow-add-behind : goal.overflow-add-behind
-overflow-add-behind g t c =
+pub overflow_add-behind : goal.overflow_add-behind
+overflow_add-behind g t c =
     let held = c.requires.1.0 in
     let room = c.requires.1.1 in
     let m = c.args.memory.now in
@@ -46,10 +46,10 @@ overflow-add-behind g t c =
     let left = held-left v.1.1.1 _ (c.child-left.ensures _ _ v.1.1.1.holds) in
     let before = ap (λ (x : Extent). x.bytes) (c.extent-before.ensures _ left.root_is left.holds) in
     let few = v.1.1.1.holds.0.few_bytes in
-    omega (arith, text-short left, c.chunk-length.ensures)
+    omega (arith, text-short left, c.chunk_length.ensures)
 
-pub same-under-requires : goal.same-under-requires
-same-under-requires g t c κs within =
+pub same_under-requires : goal.same_under-requires
+same_under-requires g t c κs within =
     let held = c.requires.1.0 in
     let room = c.requires.1.1 in
     let m = c.args.memory.now in
@@ -57,33 +57,33 @@ same-under-requires g t c κs within =
     let left = held-left v.1.1.1 _ (c.child-left.ensures _ _ v.1.1.1.holds) in
     let before = ap (λ (x : Extent). x.bytes) (c.extent-before.ensures _ left.root_is left.holds) in
     let here = v.1.1.1.holds.0 in
-    let size : c.chunk-length.result ≡ length (chunk_of m c.in-Some.i) = c.chunk-length.ensures ∙ sym (chunk-length m held.roomy c.in-Some.i here.known here.few_bytes) in
+    let size : c.chunk_length.result ≡ length (chunk_of m c.in-Some.i) = c.chunk_length.ensures ∙ sym (chunk-length m held.roomy c.in-Some.i here.known here.few_bytes) in
     let given = c.args.given.now in
-    let rooms = copy-rooms m v.1.1.0 c.args.from c.args.to _ _ _ _ _ _ before size c.saturating-sub-own-from.ensures c.saturating-sub-own-to.ensures c.saturating-sub-rest-from.ensures c.saturating-sub-rest-to.ensures c.args.at (length given) room in
+    let rooms = copy-rooms m v.1.1.0 c.args.from c.args.to _ _ _ _ _ _ before size c.saturating_sub-own_from.ensures c.saturating_sub-own_to.ensures c.saturating_sub-rest_from.ensures c.saturating_sub-rest_to.ensures c.args.at (length given) room in
     let whole = height-held m held.roomy _ _ held.root_is held.holds in
     let lower = node-higher v.1.1.0 in
     let measured = c.decreases in
     let part = height-held m held.roomy _ _ left.root_is left.holds in
     (omega (arith, lower.0), (within, (_, (left, rooms.0))))
 
-pub returns-in-default-same-under : goal.returns-in-default-same-under
-returns-in-default-same-under g t c tree held room =
+pub returns-in_default-same_under : goal.returns-in_default-same_under
+returns-in_default-same_under g t c tree held room =
     let m = c.args.memory.now in
     let v = sides c.in-Some.is held in
     let left = held-left v.1.1.1 _ (c.child-left.ensures _ _ v.1.1.1.holds) in
     let before = ap (λ (x : Extent). x.bytes) (c.extent-before.ensures _ left.root_is left.holds) in
     let here = v.1.1.1.holds.0 in
-    let size : c.chunk-length.result ≡ length (chunk_of m c.in-Some.i) = c.chunk-length.ensures ∙ sym (chunk-length m held.roomy c.in-Some.i here.known here.few_bytes) in
+    let size : c.chunk_length.result ≡ length (chunk_of m c.in-Some.i) = c.chunk_length.ensures ∙ sym (chunk-length m held.roomy c.in-Some.i here.known here.few_bytes) in
     let given = c.args.given.now in
-    let rooms = copy-rooms m v.1.1.0 c.args.from c.args.to _ _ _ _ _ _ before size c.saturating-sub-own-from.ensures c.saturating-sub-own-to.ensures c.saturating-sub-rest-from.ensures c.saturating-sub-rest-to.ensures c.args.at (length given) room in
-    let cut = copy-cut m v.1.1.0 c.args.from c.args.to _ _ _ _ _ _ before size c.saturating-sub-own-from.ensures c.saturating-sub-own-to.ensures c.saturating-sub-rest-from.ensures c.saturating-sub-rest-to.ensures in
+    let rooms = copy-rooms m v.1.1.0 c.args.from c.args.to _ _ _ _ _ _ before size c.saturating_sub-own_from.ensures c.saturating_sub-own_to.ensures c.saturating_sub-rest_from.ensures c.saturating_sub-rest_to.ensures c.args.at (length given) room in
+    let cut = copy-cut m v.1.1.0 c.args.from c.args.to _ _ _ _ _ _ before size c.saturating_sub-own_from.ensures c.saturating_sub-own_to.ensures c.saturating_sub-rest_from.ensures c.saturating_sub-rest_to.ensures in
     let xs = between c.args.from c.args.to (text_of m v.0) in
-    let ys = between c.saturating-sub-own-from.result c.saturating-sub-own-to.result (chunk_of m c.in-Some.i) in
-    let zs = between c.saturating-sub-rest-from.result c.saturating-sub-rest-to.result (text_of m v.1.0) in
-    subst (λ (l : List ℕ). Compared l given c.args.at None) (sym cut) (first-differs xs ys zs given c.args.at (c.in-default-same-under.ensures _ left rooms.0))
+    let ys = between c.saturating_sub-own_from.result c.saturating_sub-own_to.result (chunk_of m c.in-Some.i) in
+    let zs = between c.saturating_sub-rest_from.result c.saturating_sub-rest_to.result (text_of m v.1.0) in
+    subst (λ (l : List ℕ). Compared l given c.args.at None) (sym cut) (first-differs xs ys zs given c.args.at (c.in_default-same_under.ensures _ left rooms.0))
 
-pub same-chunk-requires : goal.same-chunk-requires
-same-chunk-requires g t c =
+pub same_chunk-requires : goal.same_chunk-requires
+same_chunk-requires g t c =
     let held = c.requires.1.0 in
     let room = c.requires.1.1 in
     let m = c.args.memory.now in
@@ -91,33 +91,33 @@ same-chunk-requires g t c =
     let left = held-left v.1.1.1 _ (c.child-left.ensures _ _ v.1.1.1.holds) in
     let before = ap (λ (x : Extent). x.bytes) (c.extent-before.ensures _ left.root_is left.holds) in
     let here = v.1.1.1.holds.0 in
-    let size : c.chunk-length.result ≡ length (chunk_of m c.in-Some.i) = c.chunk-length.ensures ∙ sym (chunk-length m held.roomy c.in-Some.i here.known here.few_bytes) in
+    let size : c.chunk_length.result ≡ length (chunk_of m c.in-Some.i) = c.chunk_length.ensures ∙ sym (chunk-length m held.roomy c.in-Some.i here.known here.few_bytes) in
     let given = c.args.given.now in
-    let rooms = copy-rooms m v.1.1.0 c.args.from c.args.to _ _ _ _ _ _ before size c.saturating-sub-own-from.ensures c.saturating-sub-own-to.ensures c.saturating-sub-rest-from.ensures c.saturating-sub-rest-to.ensures c.args.at (length given) room in
-    let first = c.in-Some-same-under.ensures _ left rooms.0 in
+    let rooms = copy-rooms m v.1.1.0 c.args.from c.args.to _ _ _ _ _ _ before size c.saturating_sub-own_from.ensures c.saturating_sub-own_to.ensures c.saturating_sub-rest_from.ensures c.saturating_sub-rest_to.ensures c.args.at (length given) room in
+    let first = c.in-Some-same_under.ensures _ left rooms.0 in
     let first-end = first.0 in
     (held.roomy, (here.known, (here.few_bytes, omega (arith, rooms.1.0))))
 
-pub returns-in-default-same-chunk : goal.returns-in-default-same-chunk
-returns-in-default-same-chunk g t c tree held room =
+pub returns-in_default-same_chunk : goal.returns-in_default-same_chunk
+returns-in_default-same_chunk g t c tree held room =
     let m = c.args.memory.now in
     let v = sides c.in-Some.is held in
     let left = held-left v.1.1.1 _ (c.child-left.ensures _ _ v.1.1.1.holds) in
     let before = ap (λ (x : Extent). x.bytes) (c.extent-before.ensures _ left.root_is left.holds) in
     let here = v.1.1.1.holds.0 in
-    let size : c.chunk-length.result ≡ length (chunk_of m c.in-Some.i) = c.chunk-length.ensures ∙ sym (chunk-length m held.roomy c.in-Some.i here.known here.few_bytes) in
+    let size : c.chunk_length.result ≡ length (chunk_of m c.in-Some.i) = c.chunk_length.ensures ∙ sym (chunk-length m held.roomy c.in-Some.i here.known here.few_bytes) in
     let given = c.args.given.now in
-    let rooms = copy-rooms m v.1.1.0 c.args.from c.args.to _ _ _ _ _ _ before size c.saturating-sub-own-from.ensures c.saturating-sub-own-to.ensures c.saturating-sub-rest-from.ensures c.saturating-sub-rest-to.ensures c.args.at (length given) room in
-    let cut = copy-cut m v.1.1.0 c.args.from c.args.to _ _ _ _ _ _ before size c.saturating-sub-own-from.ensures c.saturating-sub-own-to.ensures c.saturating-sub-rest-from.ensures c.saturating-sub-rest-to.ensures in
-    let first = c.in-Some-same-under.ensures _ left rooms.0 in
+    let rooms = copy-rooms m v.1.1.0 c.args.from c.args.to _ _ _ _ _ _ before size c.saturating_sub-own_from.ensures c.saturating_sub-own_to.ensures c.saturating_sub-rest_from.ensures c.saturating_sub-rest_to.ensures c.args.at (length given) room in
+    let cut = copy-cut m v.1.1.0 c.args.from c.args.to _ _ _ _ _ _ before size c.saturating_sub-own_from.ensures c.saturating_sub-own_to.ensures c.saturating_sub-rest_from.ensures c.saturating_sub-rest_to.ensures in
+    let first = c.in-Some-same_under.ensures _ left rooms.0 in
     let first-end = first.0 in
     let xs = between c.args.from c.args.to (text_of m v.0) in
-    let ys = between c.saturating-sub-own-from.result c.saturating-sub-own-to.result (chunk_of m c.in-Some.i) in
-    let zs = between c.saturating-sub-rest-from.result c.saturating-sub-rest-to.result (text_of m v.1.0) in
-    subst (λ (l : List ℕ). Compared l given c.args.at None) (sym cut) (own-differs xs ys zs given c.args.at _ first c.in-default-same-chunk.ensures)
+    let ys = between c.saturating_sub-own_from.result c.saturating_sub-own_to.result (chunk_of m c.in-Some.i) in
+    let zs = between c.saturating_sub-rest_from.result c.saturating_sub-rest_to.result (text_of m v.1.0) in
+    subst (λ (l : List ℕ). Compared l given c.args.at None) (sym cut) (own-differs xs ys zs given c.args.at _ first c.in_default-same_chunk.ensures)
 
-pub same-under-requires-2 : goal.same-under-requires-2
-same-under-requires-2 g t c κs within =
+pub same_under-requires-2 : goal.same_under-requires-2
+same_under-requires-2 g t c κs within =
     let held = c.requires.1.0 in
     let room = c.requires.1.1 in
     let m = c.args.memory.now in
@@ -125,12 +125,12 @@ same-under-requires-2 g t c κs within =
     let left = held-left v.1.1.1 _ (c.child-left.ensures _ _ v.1.1.1.holds) in
     let before = ap (λ (x : Extent). x.bytes) (c.extent-before.ensures _ left.root_is left.holds) in
     let here = v.1.1.1.holds.0 in
-    let size : c.chunk-length.result ≡ length (chunk_of m c.in-Some.i) = c.chunk-length.ensures ∙ sym (chunk-length m held.roomy c.in-Some.i here.known here.few_bytes) in
+    let size : c.chunk_length.result ≡ length (chunk_of m c.in-Some.i) = c.chunk_length.ensures ∙ sym (chunk-length m held.roomy c.in-Some.i here.known here.few_bytes) in
     let given = c.args.given.now in
-    let rooms = copy-rooms m v.1.1.0 c.args.from c.args.to _ _ _ _ _ _ before size c.saturating-sub-own-from.ensures c.saturating-sub-own-to.ensures c.saturating-sub-rest-from.ensures c.saturating-sub-rest-to.ensures c.args.at (length given) room in
-    let first = c.in-Some-same-under.ensures _ left rooms.0 in
+    let rooms = copy-rooms m v.1.1.0 c.args.from c.args.to _ _ _ _ _ _ before size c.saturating_sub-own_from.ensures c.saturating_sub-own_to.ensures c.saturating_sub-rest_from.ensures c.saturating_sub-rest_to.ensures c.args.at (length given) room in
+    let first = c.in-Some-same_under.ensures _ left rooms.0 in
     let first-end = first.0 in
-    let own = c.in-Some-same-chunk.ensures in
+    let own = c.in-Some-same_chunk.ensures in
     let own-end = own.0 in
     let right = held-right v.1.1.1 _ (c.child-right.ensures _ _ v.1.1.1.holds) in
     let whole = height-held m held.roomy _ _ held.root_is held.holds in
@@ -146,17 +146,17 @@ returns g t c tree held room =
     let left = held-left v.1.1.1 _ (c.child-left.ensures _ _ v.1.1.1.holds) in
     let before = ap (λ (x : Extent). x.bytes) (c.extent-before.ensures _ left.root_is left.holds) in
     let here = v.1.1.1.holds.0 in
-    let size : c.chunk-length.result ≡ length (chunk_of m c.in-Some.i) = c.chunk-length.ensures ∙ sym (chunk-length m held.roomy c.in-Some.i here.known here.few_bytes) in
+    let size : c.chunk_length.result ≡ length (chunk_of m c.in-Some.i) = c.chunk_length.ensures ∙ sym (chunk-length m held.roomy c.in-Some.i here.known here.few_bytes) in
     let given = c.args.given.now in
-    let rooms = copy-rooms m v.1.1.0 c.args.from c.args.to _ _ _ _ _ _ before size c.saturating-sub-own-from.ensures c.saturating-sub-own-to.ensures c.saturating-sub-rest-from.ensures c.saturating-sub-rest-to.ensures c.args.at (length given) room in
-    let cut = copy-cut m v.1.1.0 c.args.from c.args.to _ _ _ _ _ _ before size c.saturating-sub-own-from.ensures c.saturating-sub-own-to.ensures c.saturating-sub-rest-from.ensures c.saturating-sub-rest-to.ensures in
-    let first = c.in-Some-same-under.ensures _ left rooms.0 in
+    let rooms = copy-rooms m v.1.1.0 c.args.from c.args.to _ _ _ _ _ _ before size c.saturating_sub-own_from.ensures c.saturating_sub-own_to.ensures c.saturating_sub-rest_from.ensures c.saturating_sub-rest_to.ensures c.args.at (length given) room in
+    let cut = copy-cut m v.1.1.0 c.args.from c.args.to _ _ _ _ _ _ before size c.saturating_sub-own_from.ensures c.saturating_sub-own_to.ensures c.saturating_sub-rest_from.ensures c.saturating_sub-rest_to.ensures in
+    let first = c.in-Some-same_under.ensures _ left rooms.0 in
     let first-end = first.0 in
-    let own = c.in-Some-same-chunk.ensures in
+    let own = c.in-Some-same_chunk.ensures in
     let own-end = own.0 in
     let right = held-right v.1.1.1 _ (c.child-right.ensures _ _ v.1.1.1.holds) in
-    let rest = c.same-under-2.ensures _ right (omega (arith, rooms.1.1)) in
+    let rest = c.same_under-2.ensures _ right (omega (arith, rooms.1.1)) in
     let xs = between c.args.from c.args.to (text_of m v.0) in
-    let ys = between c.saturating-sub-own-from.result c.saturating-sub-own-to.result (chunk_of m c.in-Some.i) in
-    let zs = between c.saturating-sub-rest-from.result c.saturating-sub-rest-to.result (text_of m v.1.0) in
-    subst (λ (l : List ℕ). Compared l given c.args.at c.same-under-2.result) (sym cut) (compared-three xs ys zs given c.args.at _ first _ own _ rest)
+    let ys = between c.saturating_sub-own_from.result c.saturating_sub-own_to.result (chunk_of m c.in-Some.i) in
+    let zs = between c.saturating_sub-rest_from.result c.saturating_sub-rest_to.result (text_of m v.1.0) in
+    subst (λ (l : List ℕ). Compared l given c.args.at c.same_under-2.result) (sym cut) (compared-three xs ys zs given c.args.at _ first _ own _ rest)

@@ -5,8 +5,8 @@ use Rattle.slots.proofs.Reading.{whole-sound}
 use Rattle.slots.proofs.Replacing.{held_whole}
 use Rattle.questions.proofs.same.same_range.Goals as goal
 
-pub same-under-requires : goal.same-under-requires
-same-under-requires g c = let long = c.requires.1 in (_, (held_whole (whole-sound _ _ c.requires.0), omega arith))
+pub same_under-requires : goal.same_under-requires
+same_under-requires g c = let long = c.requires.1 in (_, (held_whole (whole-sound _ _ c.requires.0), omega arith))
 
 pub returns-in-Some : goal.returns-in-Some
 returns-in-Some g c =

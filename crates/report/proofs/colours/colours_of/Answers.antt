@@ -7,9 +7,9 @@ use Rattle.report.proofs.colours.colours_of.Goals as goal
 pub returns : goal.returns
 returns g c =
     let a = g.G.Grammar.meaning c.args.grammar.now in
-    let cells = c.in-ok-cells.cells in
-    let made = c.in-ok-cells.ensures in
-    let lent = c.deref-mut.ensures in
+    let cells = c.in_ok-cells.cells in
+    let made = c.in_ok-cells.ensures in
+    let lent = c.deref_mut.ensures in
     let after = c.colour.new.cells in
     let is : after ≡ colours a c.args.text.now = c.colour.ensures.coloured ∙ ap (colours a) (lent.value ∙ made.items) in
     take_at after (drop (length after) cells.items) cells.len (ap length is ∙ colours-length a 0 c.args.text.now ∙ sym made.len) ∙ is

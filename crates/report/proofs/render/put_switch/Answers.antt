@@ -1,5 +1,5 @@
 use Rattle.report.proofs.Palette.{palette-small}
 use Rattle.report.proofs.render.put_switch.Goals as goal
 
-pub put-escape-requires : goal.put-escape-requires
-put-escape-requires c = palette-small c.args.class
+pub put_escape-requires : goal.put_escape-requires
+put_escape-requires c = palette-small c.args.class

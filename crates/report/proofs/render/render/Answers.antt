@@ -15,7 +15,7 @@ loop-i-preserved c =
     let in-text : i < length text = omega arith in
     let in_cells : i < length cells = omega arith in
     let left = rendered-more view last text cells i in-text in_cells in
-    let put = c.in-ok-last.ensures in
+    let put = c.in_ok-last.ensures in
     let rest = rendered-from view (next-shown view last byte cell) (drop (i + 1) text) (drop (i + 1) cells) in
     let together = append_assoc (vec_items c.loop-i.out) (piece view last byte cell) rest in
     let so_far = c.loop-i.invariant in
@@ -24,5 +24,5 @@ loop-i-preserved c =
 pub returns : goal.returns
 returns c =
     let none = rendered-all c.args.view c.loop-i.last c.args.text.now c.args.cells.now c.loop-i.i (omega arith) in
-    let put = c.in-ok-put-closing.ensures in
+    let put = c.in_ok-put_closing.ensures in
     put ∙ ap (λ l. vec_items c.loop-i.out ++ l) (sym none) ∙ c.loop-i.invariant

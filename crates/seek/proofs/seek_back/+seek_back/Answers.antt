@@ -13,8 +13,8 @@ use Rattle.seek.proofs.Ascent.{Found-back, stopped-right, own-fits, stopped-insi
 use Rattle.seek.proofs.seek_back.+seek_back.Goals as goal
 
 -- With no byte before the place there is nothing to run through.
-pub returns-in-default : goal.returns-in-default
-returns-in-default g t c =
+pub returns-in_default : goal.returns-in_default
+returns-in_default g t c =
     let m = c.args.memory.now in
     let b = g.S.Backward in
     let μ = b.scale c.args.search.now in
@@ -23,7 +23,7 @@ returns-in-default g t c =
     record {
       within = λ z held. omega (arith, ap (λ s. s.passed) c.nowhere.ensures);
       finds = λ z held keeps.
-          let none = leaf-if-none z (sym c.in-default.is ∙ held.root_is) in
+          let none = leaf-if-none z (sym c.in_default.is ∙ held.root_is) in
           c.nowhere.ensures ∙ ap (λ l. back-stop fore back c.args.state l c.args.at) (sym (ap (λ (u : Tree). take c.args.place (text_of m u)) none ∙ take_all c.args.place [] (omega arith)));
     }
 
@@ -39,28 +39,28 @@ returns-then-place-eq0 g t c =
       finds = λ z held keeps. c.nowhere-then-place-eq0.ensures ∙ ap (λ n. back-stop fore back c.args.state (take n (text_of m z)) c.args.at) (sym c.if-place-eq0.true);
     }
 
-pub returns-in-Some-pass-back-under : goal.returns-in-Some-pass-back-under
-returns-in-Some-pass-back-under g t c =
+pub returns-in-Some-pass_back_under : goal.returns-in-Some-pass_back_under
+returns-in-Some-pass_back_under g t c =
     let m = c.args.memory.now in
     let b = g.S.Backward in
     let μ = b.scale c.args.search.now in
     let fore = b.fore c.args.search.now in
     let back = b.back c.args.search.now in
     let place = c.args.place in
-    let found = c.pass-back-under.ensures in
-    let past = leb-true c.extent-bytes.result.bytes place (found.only (ap is_some c.in-Some-pass-back-under.is)) in
+    let found = c.pass_back_under.ensures in
+    let past = leb-true c.extent-bytes.result.bytes place (found.only (ap is_some c.in-Some-pass_back_under.is)) in
     let bytes : (z : Tree) → Held m c.args.link z → c.extent-bytes.result.bytes ≡ length (text_of m z) = λ z held. ap (λ (x : Extent). x.bytes) (c.extent-bytes.ensures z held.root_is held.holds) in
     let all : (z : Tree) → Held m c.args.link z → take place (text_of m z) ≡ text_of m z = λ z held. take_all place (text_of m z) (omega (arith, bytes z held)) in
     record {
       within = λ z held. omega (arith, bytes z held, ap length (all z held));
       finds = λ z held keeps.
-          let before = c.in-Some-pass-back-under.before in
-          let runs = c.in-Some-pass-back-under.ensures.passes (text_of m z) (kept_top m μ z c.in-Some.i (sym c.in-Some.is ∙ held.root_is) keeps) in
+          let before = c.in-Some-pass_back_under.before in
+          let runs = c.in-Some-pass_back_under.ensures.passes (text_of m z) (kept_top m μ z c.in-Some.i (sym c.in-Some.is ∙ held.root_is) keeps) in
           ap (λ n. record { passed = n; at = before; stopped = false }) (bytes z held) ∙ sym runs ∙ ap (λ l. back-stop fore back c.args.state l c.args.at) (sym (all z held));
     }
 
-pub seek-back-first-requires : goal.seek-back-first-requires
-seek-back-first-requires g t c κs within =
+pub seek_back-first-requires : goal.seek_back-first-requires
+seek_back-first-requires g t c κs within =
     let held = c.requires.1 in
     let m = c.args.memory.now in
     let o = opened m c.in-Some.i c.child-left.result c.child-right.result c.args.link c.child-left.ensures c.child-right.ensures c.in-Some.is c.requires.0 held in
@@ -68,8 +68,8 @@ seek-back-first-requires g t c κs within =
     let measured = c.decreases in
     (omega (arith, o.lower.0), (within.0, (within.1.0, (within.1.1.0, (within.1.1.1, (o.l, o.left-held))))))
 
-pub seek-back-rest-requires : goal.seek-back-rest-requires
-seek-back-rest-requires g t c κs within =
+pub seek_back-rest-requires : goal.seek_back-rest-requires
+seek_back-rest-requires g t c κs within =
     let held = c.requires.1 in
     let m = c.args.memory.now in
     let o = opened m c.in-Some.i c.child-left.result c.child-right.result c.args.link c.child-left.ensures c.child-right.ensures c.in-Some.is c.requires.0 held in
@@ -84,8 +84,8 @@ extent-before-requires g t c =
     let o = opened m c.in-Some.i c.child-left.result c.child-right.result c.args.link c.child-left.ensures c.child-right.ensures c.in-Some.is c.requires.0 held in
     (held.roomy, (o.l, (o.left-held.root_is, o.left-held.holds)))
 
-pub ahead-under-inner-requires : goal.ahead-under-inner-requires
-ahead-under-inner-requires g t c =
+pub ahead_under-inner-requires : goal.ahead_under-inner-requires
+ahead_under-inner-requires g t c =
     let held = c.requires.1 in
     let m = c.args.memory.now in
     let o = opened m c.in-Some.i c.child-left.result c.child-right.result c.args.link c.child-left.ensures c.child-right.ensures c.in-Some.is c.requires.0 held in
@@ -98,8 +98,8 @@ chunk-requires g t c =
     let o = opened m c.in-Some.i c.child-left.result c.child-right.result c.args.link c.child-left.ensures c.child-right.ensures c.in-Some.is c.requires.0 held in
     (held.roomy, (o.known, o.few_bytes))
 
-pub seek-own-back-inside-requires : goal.seek-own-back-inside-requires
-seek-own-back-inside-requires g t c =
+pub seek_own_back-inside-requires : goal.seek_own_back-inside-requires
+seek_own_back-inside-requires g t c =
     let held = c.requires.1 in
     let m = c.args.memory.now in
     let o = opened m c.in-Some.i c.child-left.result c.child-right.result c.args.link c.child-left.ensures c.child-right.ensures c.in-Some.is c.requires.0 held in
@@ -113,8 +113,8 @@ returns-then-rest g t c =
     let μ = b.scale c.args.search.now in
     let fore = b.fore c.args.search.now in
     let back = b.back c.args.search.now in
-    let right = c.seek-back-rest.ensures in
-    let found : (z : Tree) → Held m c.args.link z → Found-back m μ fore back c.args.state c.args.place c.args.at z c.seek-back-rest.result = λ z held. stopped-right m μ fore back c.args.state c.args.at c.args.place i c.child-left.result c.child-right.result c.args.link (opened m i c.child-left.result c.child-right.result c.args.link c.child-left.ensures c.child-right.ensures c.in-Some.is) c.extent-before.result.bytes c.chunk-length.result (λ z held. ap (λ (x : Extent). x.bytes) (c.extent-before.ensures z held.root_is held.holds)) c.chunk-length.ensures c.ahead-under-inner.result c.ahead-of-bytes-outer.result c.ahead-under-inner.ensures (c.ahead-of-bytes-outer.ensures ∙ ap (forwards fore c.ahead-under-inner.result) c.chunk.ensures) c.saturating-sub.result c.saturating-sub.ensures c.seek-back-rest.result (λ z held. record { within = right.within z held; finds = right.finds z held }) z held c.if-rest.true in
+    let right = c.seek_back-rest.ensures in
+    let found : (z : Tree) → Held m c.args.link z → Found-back m μ fore back c.args.state c.args.place c.args.at z c.seek_back-rest.result = λ z held. stopped-right m μ fore back c.args.state c.args.at c.args.place i c.child-left.result c.child-right.result c.args.link (opened m i c.child-left.result c.child-right.result c.args.link c.child-left.ensures c.child-right.ensures c.in-Some.is) c.extent-before.result.bytes c.chunk_length.result (λ z held. ap (λ (x : Extent). x.bytes) (c.extent-before.ensures z held.root_is held.holds)) c.chunk_length.ensures c.ahead_under-inner.result c.ahead_of_bytes-outer.result c.ahead_under-inner.ensures (c.ahead_of_bytes-outer.ensures ∙ ap (forwards fore c.ahead_under-inner.result) c.chunk.ensures) c.saturating_sub.result c.saturating_sub.ensures c.seek_back-rest.result (λ z held. record { within = right.within z held; finds = right.finds z held }) z held c.if-rest.true in
     record { within = λ z held. (found z held).within; finds = λ z held. (found z held).finds }
 
 pub further-own-requires : goal.further-own-requires
@@ -125,8 +125,8 @@ further-own-requires g t c =
     let μ = b.scale c.args.search.now in
     let fore = b.fore c.args.search.now in
     let back = b.back c.args.search.now in
-    let right = c.seek-back-rest.ensures in
-    own-fits m μ fore back c.args.state c.args.at c.args.place i c.child-left.result c.child-right.result c.args.link (opened m i c.child-left.result c.child-right.result c.args.link c.child-left.ensures c.child-right.ensures c.in-Some.is) c.extent-before.result.bytes c.chunk-length.result (λ z held. ap (λ (x : Extent). x.bytes) (c.extent-before.ensures z held.root_is held.holds)) c.chunk-length.ensures c.ahead-under-inner.result c.ahead-of-bytes-outer.result c.ahead-under-inner.ensures (c.ahead-of-bytes-outer.ensures ∙ ap (forwards fore c.ahead-under-inner.result) c.chunk.ensures) c.saturating-sub.result c.saturating-sub.ensures c.seek-back-rest.result (λ z held. record { within = right.within z held; finds = right.finds z held }) c.if-rest.false c.saturating-sub-2.result c.saturating-sub-2.ensures c.seek-own-back-inside.result c.seek-own-back-inside.ensures c.requires.0 c.requires.1
+    let right = c.seek_back-rest.ensures in
+    own-fits m μ fore back c.args.state c.args.at c.args.place i c.child-left.result c.child-right.result c.args.link (opened m i c.child-left.result c.child-right.result c.args.link c.child-left.ensures c.child-right.ensures c.in-Some.is) c.extent-before.result.bytes c.chunk_length.result (λ z held. ap (λ (x : Extent). x.bytes) (c.extent-before.ensures z held.root_is held.holds)) c.chunk_length.ensures c.ahead_under-inner.result c.ahead_of_bytes-outer.result c.ahead_under-inner.ensures (c.ahead_of_bytes-outer.ensures ∙ ap (forwards fore c.ahead_under-inner.result) c.chunk.ensures) c.saturating_sub.result c.saturating_sub.ensures c.seek_back-rest.result (λ z held. record { within = right.within z held; finds = right.finds z held }) c.if-rest.false c.saturating_sub-2.result c.saturating_sub-2.ensures c.seek_own_back-inside.result c.seek_own_back-inside.ensures c.requires.0 c.requires.1
 
 pub returns-then-own : goal.returns-then-own
 returns-then-own g t c =
@@ -136,8 +136,8 @@ returns-then-own g t c =
     let μ = b.scale c.args.search.now in
     let fore = b.fore c.args.search.now in
     let back = b.back c.args.search.now in
-    let right = c.seek-back-rest.ensures in
-    let found = stopped-inside m μ fore back c.args.state c.args.at c.args.place i c.child-left.result c.child-right.result c.args.link (opened m i c.child-left.result c.child-right.result c.args.link c.child-left.ensures c.child-right.ensures c.in-Some.is) c.extent-before.result.bytes c.chunk-length.result (λ z held. ap (λ (x : Extent). x.bytes) (c.extent-before.ensures z held.root_is held.holds)) c.chunk-length.ensures c.ahead-under-inner.result c.ahead-of-bytes-outer.result c.ahead-under-inner.ensures (c.ahead-of-bytes-outer.ensures ∙ ap (forwards fore c.ahead-under-inner.result) c.chunk.ensures) c.saturating-sub.result c.saturating-sub.ensures c.seek-back-rest.result (λ z held. record { within = right.within z held; finds = right.finds z held }) c.if-rest.false c.saturating-sub-2.result c.saturating-sub-2.ensures c.seek-own-back-inside.result c.seek-own-back-inside.ensures c.further-own.result c.further-own.ensures c.if-own.true in
+    let right = c.seek_back-rest.ensures in
+    let found = stopped-inside m μ fore back c.args.state c.args.at c.args.place i c.child-left.result c.child-right.result c.args.link (opened m i c.child-left.result c.child-right.result c.args.link c.child-left.ensures c.child-right.ensures c.in-Some.is) c.extent-before.result.bytes c.chunk_length.result (λ z held. ap (λ (x : Extent). x.bytes) (c.extent-before.ensures z held.root_is held.holds)) c.chunk_length.ensures c.ahead_under-inner.result c.ahead_of_bytes-outer.result c.ahead_under-inner.ensures (c.ahead_of_bytes-outer.ensures ∙ ap (forwards fore c.ahead_under-inner.result) c.chunk.ensures) c.saturating_sub.result c.saturating_sub.ensures c.seek_back-rest.result (λ z held. record { within = right.within z held; finds = right.finds z held }) c.if-rest.false c.saturating_sub-2.result c.saturating_sub-2.ensures c.seek_own_back-inside.result c.seek_own_back-inside.ensures c.further-own.result c.further-own.ensures c.if-own.true in
     record { within = λ z held. (found z held).within; finds = λ z held. (found z held).finds }
 
 pub further-requires : goal.further-requires
@@ -148,9 +148,9 @@ further-requires g t c =
     let μ = b.scale c.args.search.now in
     let fore = b.fore c.args.search.now in
     let back = b.back c.args.search.now in
-    let right = c.seek-back-rest.ensures in
-    let left = c.seek-back-first.ensures in
-    all-fits m μ fore back c.args.state c.args.at c.args.place i c.child-left.result c.child-right.result c.args.link (opened m i c.child-left.result c.child-right.result c.args.link c.child-left.ensures c.child-right.ensures c.in-Some.is) c.extent-before.result.bytes c.chunk-length.result (λ z held. ap (λ (x : Extent). x.bytes) (c.extent-before.ensures z held.root_is held.holds)) c.chunk-length.ensures c.ahead-under-inner.result c.ahead-of-bytes-outer.result c.ahead-under-inner.ensures (c.ahead-of-bytes-outer.ensures ∙ ap (forwards fore c.ahead-under-inner.result) c.chunk.ensures) c.saturating-sub.result c.saturating-sub.ensures c.seek-back-rest.result (λ z held. record { within = right.within z held; finds = right.finds z held }) c.if-rest.false c.saturating-sub-2.result c.saturating-sub-2.ensures c.seek-own-back-inside.result c.seek-own-back-inside.ensures c.further-own.result c.further-own.ensures c.if-own.false c.seek-back-first.result (λ z held. record { within = left.within z held; finds = left.finds z held }) c.requires.0 c.requires.1
+    let right = c.seek_back-rest.ensures in
+    let left = c.seek_back-first.ensures in
+    all-fits m μ fore back c.args.state c.args.at c.args.place i c.child-left.result c.child-right.result c.args.link (opened m i c.child-left.result c.child-right.result c.args.link c.child-left.ensures c.child-right.ensures c.in-Some.is) c.extent-before.result.bytes c.chunk_length.result (λ z held. ap (λ (x : Extent). x.bytes) (c.extent-before.ensures z held.root_is held.holds)) c.chunk_length.ensures c.ahead_under-inner.result c.ahead_of_bytes-outer.result c.ahead_under-inner.ensures (c.ahead_of_bytes-outer.ensures ∙ ap (forwards fore c.ahead_under-inner.result) c.chunk.ensures) c.saturating_sub.result c.saturating_sub.ensures c.seek_back-rest.result (λ z held. record { within = right.within z held; finds = right.finds z held }) c.if-rest.false c.saturating_sub-2.result c.saturating_sub-2.ensures c.seek_own_back-inside.result c.seek_own_back-inside.ensures c.further-own.result c.further-own.ensures c.if-own.false c.seek_back-first.result (λ z held. record { within = left.within z held; finds = left.finds z held }) c.requires.0 c.requires.1
 
 pub returns : goal.returns
 returns g t c =
@@ -160,7 +160,7 @@ returns g t c =
     let μ = b.scale c.args.search.now in
     let fore = b.fore c.args.search.now in
     let back = b.back c.args.search.now in
-    let right = c.seek-back-rest.ensures in
-    let left = c.seek-back-first.ensures in
-    let found = found_all m μ fore back c.args.state c.args.at c.args.place i c.child-left.result c.child-right.result c.args.link (opened m i c.child-left.result c.child-right.result c.args.link c.child-left.ensures c.child-right.ensures c.in-Some.is) c.extent-before.result.bytes c.chunk-length.result (λ z held. ap (λ (x : Extent). x.bytes) (c.extent-before.ensures z held.root_is held.holds)) c.chunk-length.ensures c.ahead-under-inner.result c.ahead-of-bytes-outer.result c.ahead-under-inner.ensures (c.ahead-of-bytes-outer.ensures ∙ ap (forwards fore c.ahead-under-inner.result) c.chunk.ensures) c.saturating-sub.result c.saturating-sub.ensures c.seek-back-rest.result (λ z held. record { within = right.within z held; finds = right.finds z held }) c.if-rest.false c.saturating-sub-2.result c.saturating-sub-2.ensures c.seek-own-back-inside.result c.seek-own-back-inside.ensures c.further-own.result c.further-own.ensures c.if-own.false c.seek-back-first.result (λ z held. record { within = left.within z held; finds = left.finds z held }) c.further.result c.further.ensures in
+    let right = c.seek_back-rest.ensures in
+    let left = c.seek_back-first.ensures in
+    let found = found_all m μ fore back c.args.state c.args.at c.args.place i c.child-left.result c.child-right.result c.args.link (opened m i c.child-left.result c.child-right.result c.args.link c.child-left.ensures c.child-right.ensures c.in-Some.is) c.extent-before.result.bytes c.chunk_length.result (λ z held. ap (λ (x : Extent). x.bytes) (c.extent-before.ensures z held.root_is held.holds)) c.chunk_length.ensures c.ahead_under-inner.result c.ahead_of_bytes-outer.result c.ahead_under-inner.ensures (c.ahead_of_bytes-outer.ensures ∙ ap (forwards fore c.ahead_under-inner.result) c.chunk.ensures) c.saturating_sub.result c.saturating_sub.ensures c.seek_back-rest.result (λ z held. record { within = right.within z held; finds = right.finds z held }) c.if-rest.false c.saturating_sub-2.result c.saturating_sub-2.ensures c.seek_own_back-inside.result c.seek_own_back-inside.ensures c.further-own.result c.further-own.ensures c.if-own.false c.seek_back-first.result (λ z held. record { within = left.within z held; finds = left.finds z held }) c.further.result c.further.ensures in
     record { within = λ z held. (found z held).within; finds = λ z held. (found z held).finds }

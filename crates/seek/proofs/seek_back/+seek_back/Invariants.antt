@@ -2,5 +2,5 @@ use Rattle.slots.specs.View.{height-at}
 use Rattle.seek.proofs.seek_back.+seek_back.Given as goal
 
 -- Each step goes down.
-abbrev pub decreases-seek-back : goal.decreases-seek-back
-decreases-seek-back g l = height-at l.memory.now l.link
+abbrev pub decreases-seek_back : goal.decreases-seek_back
+decreases-seek_back g l = height-at l.memory.now l.link

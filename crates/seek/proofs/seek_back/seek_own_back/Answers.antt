@@ -7,5 +7,5 @@ pub returns : goal.returns
 returns g c =
     let b = g.S.Backward in
     let bytes = c.chunk-bytes.result.now in
-    c.seek-bytes-back.ensures
+    c.seek_bytes_back.ensures
     ∙ ap (λ l. back-stop (b.fore c.args.search.now) (b.back c.args.search.now) c.args.state l c.args.at) (take-capped c.args.place c.min-to.result bytes c.min-to.ensures ∙ ap (take c.args.place) c.chunk-bytes.ensures)

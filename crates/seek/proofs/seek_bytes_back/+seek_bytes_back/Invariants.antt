@@ -1,5 +1,5 @@
 use Rattle.std.proofs.Common.{length}
 use Rattle.seek.proofs.seek_bytes_back.+seek_bytes_back.Given as goal
 
-abbrev pub decreases-seek-bytes-back : goal.decreases-seek-bytes-back
-decreases-seek-bytes-back g l = length l.bytes.now
+abbrev pub decreases-seek_bytes_back : goal.decreases-seek_bytes_back
+decreases-seek_bytes_back g l = length l.bytes.now

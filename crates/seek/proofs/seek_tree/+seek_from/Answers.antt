@@ -13,14 +13,14 @@ use Rattle.seek.proofs.Descent.{stopped-left, own-fits, stopped-inside, found_al
 use Rattle.seek.proofs.seek_tree.+seek_from.Goals as goal
 
 -- With no byte behind the place there is nothing to run through.
-pub returns-in-default : goal.returns-in-default
-returns-in-default g t c =
+pub returns-in_default : goal.returns-in_default
+returns-in_default g t c =
     let m = c.args.memory.now in
     let next = g.S.Forward.goes c.args.search.now in
     record {
       within = λ z held. omega (arith, ap (λ s. s.passed) c.nowhere.ensures);
       finds = λ z held keeps.
-          let none = leaf-if-none z (sym c.in-default.is ∙ held.root_is) in
+          let none = leaf-if-none z (sym c.in_default.is ∙ held.root_is) in
           c.nowhere.ensures ∙ ap (stop next c.args.at) (sym (ap (λ (u : Tree). drop c.args.place (text_of m u)) none ∙ drop_all c.args.place [] (omega arith)));
     }
 
@@ -36,8 +36,8 @@ returns-then-place-bytes g t c =
           c.nowhere-then-place-bytes.ensures ∙ ap (stop next c.args.at) (sym (drop_all c.args.place (text_of m z) (omega arith)));
     }
 
-pub returns-in-Some-pass-under : goal.returns-in-Some-pass-under
-returns-in-Some-pass-under g t c =
+pub returns-in-Some-pass_under : goal.returns-in-Some-pass_under
+returns-in-Some-pass_under g t c =
     let m = c.args.memory.now in
     let place = c.args.place in
     let left : (z : Tree) → Held m c.args.link z → c.extent-bytes.result.bytes - place ≡ length (drop place (text_of m z)) = λ z held.
@@ -47,13 +47,13 @@ returns-in-Some-pass-under g t c =
       finds = λ z held keeps.
           let μ = g.S.Forward.scale c.args.search.now in
           let next = g.S.Forward.goes c.args.search.now in
-          let behind = c.in-Some-pass-under.behind in
-          let runs = c.in-Some-pass-under.ensures (text_of m z) (kept_top m μ z c.in-Some.i (sym c.in-Some.is ∙ held.root_is) keeps) in
+          let behind = c.in-Some-pass_under.behind in
+          let runs = c.in-Some-pass_under.ensures (text_of m z) (kept_top m μ z c.in-Some.i (sym c.in-Some.is ∙ held.root_is) keeps) in
           ap (λ n. record { passed = n; at = behind; stopped = false }) (left z held) ∙ sym (stop-through next c.args.at (drop place (text_of m z)) behind runs);
     }
 
-pub seek-from-first-requires : goal.seek-from-first-requires
-seek-from-first-requires g t c κs within =
+pub seek_from-first-requires : goal.seek_from-first-requires
+seek_from-first-requires g t c κs within =
     let held = c.requires.1 in
     let m = c.args.memory.now in
     let o = opened m c.in-Some.i c.child-left.result c.child-right.result c.args.link c.child-left.ensures c.child-right.ensures c.in-Some.is c.requires.0 held in
@@ -61,8 +61,8 @@ seek-from-first-requires g t c κs within =
     let measured = c.decreases in
     (omega (arith, o.lower.0), (within.0, (within.1.0, (within.1.1, (o.l, o.left-held)))))
 
-pub seek-from-rest-requires : goal.seek-from-rest-requires
-seek-from-rest-requires g t c κs within =
+pub seek_from-rest-requires : goal.seek_from-rest-requires
+seek_from-rest-requires g t c κs within =
     let held = c.requires.1 in
     let m = c.args.memory.now in
     let o = opened m c.in-Some.i c.child-left.result c.child-right.result c.args.link c.child-left.ensures c.child-right.ensures c.in-Some.is c.requires.0 held in
@@ -77,8 +77,8 @@ extent-before-requires g t c =
     let o = opened m c.in-Some.i c.child-left.result c.child-right.result c.args.link c.child-left.ensures c.child-right.ensures c.in-Some.is c.requires.0 held in
     (held.roomy, (o.l, (o.left-held.root_is, o.left-held.holds)))
 
-pub seek-own-inside-requires : goal.seek-own-inside-requires
-seek-own-inside-requires g t c =
+pub seek_own-inside-requires : goal.seek_own-inside-requires
+seek_own-inside-requires g t c =
     let held = c.requires.1 in
     let m = c.args.memory.now in
     let o = opened m c.in-Some.i c.child-left.result c.child-right.result c.args.link c.child-left.ensures c.child-right.ensures c.in-Some.is c.requires.0 held in
@@ -90,8 +90,8 @@ returns-then-first g t c =
     let i = c.in-Some.i in
     let μ = g.S.Forward.scale c.args.search.now in
     let next = g.S.Forward.goes c.args.search.now in
-    let left = c.seek-from-first.ensures in
-    let found = stopped-left m μ next c.args.at c.args.place i c.child-left.result c.child-right.result c.args.link (opened m i c.child-left.result c.child-right.result c.args.link c.child-left.ensures c.child-right.ensures c.in-Some.is) c.seek-from-first.result (λ z held. record { within = left.within z held; finds = left.finds z held }) c.if-first.true in
+    let left = c.seek_from-first.ensures in
+    let found = stopped-left m μ next c.args.at c.args.place i c.child-left.result c.child-right.result c.args.link (opened m i c.child-left.result c.child-right.result c.args.link c.child-left.ensures c.child-right.ensures c.in-Some.is) c.seek_from-first.result (λ z held. record { within = left.within z held; finds = left.finds z held }) c.if-first.true in
     record { within = λ z held. (found z held).within; finds = λ z held. (found z held).finds }
 
 pub further-own-requires : goal.further-own-requires
@@ -100,8 +100,8 @@ further-own-requires g t c =
     let i = c.in-Some.i in
     let μ = g.S.Forward.scale c.args.search.now in
     let next = g.S.Forward.goes c.args.search.now in
-    let left = c.seek-from-first.ensures in
-    own-fits m μ next c.args.at c.args.place i c.child-left.result c.child-right.result c.args.link (opened m i c.child-left.result c.child-right.result c.args.link c.child-left.ensures c.child-right.ensures c.in-Some.is) c.seek-from-first.result (λ z held. record { within = left.within z held; finds = left.finds z held }) c.if-first.false c.extent-before.result.bytes c.saturating-sub.result (λ z held. ap (λ (x : Extent). x.bytes) (c.extent-before.ensures z held.root_is held.holds)) c.saturating-sub.ensures c.seek-own-inside.result c.seek-own-inside.ensures c.requires.0 c.requires.1
+    let left = c.seek_from-first.ensures in
+    own-fits m μ next c.args.at c.args.place i c.child-left.result c.child-right.result c.args.link (opened m i c.child-left.result c.child-right.result c.args.link c.child-left.ensures c.child-right.ensures c.in-Some.is) c.seek_from-first.result (λ z held. record { within = left.within z held; finds = left.finds z held }) c.if-first.false c.extent-before.result.bytes c.saturating_sub.result (λ z held. ap (λ (x : Extent). x.bytes) (c.extent-before.ensures z held.root_is held.holds)) c.saturating_sub.ensures c.seek_own-inside.result c.seek_own-inside.ensures c.requires.0 c.requires.1
 
 pub returns-then-own : goal.returns-then-own
 returns-then-own g t c =
@@ -109,8 +109,8 @@ returns-then-own g t c =
     let i = c.in-Some.i in
     let μ = g.S.Forward.scale c.args.search.now in
     let next = g.S.Forward.goes c.args.search.now in
-    let left = c.seek-from-first.ensures in
-    let found = stopped-inside m μ next c.args.at c.args.place i c.child-left.result c.child-right.result c.args.link (opened m i c.child-left.result c.child-right.result c.args.link c.child-left.ensures c.child-right.ensures c.in-Some.is) c.seek-from-first.result (λ z held. record { within = left.within z held; finds = left.finds z held }) c.if-first.false c.extent-before.result.bytes c.saturating-sub.result (λ z held. ap (λ (x : Extent). x.bytes) (c.extent-before.ensures z held.root_is held.holds)) c.saturating-sub.ensures c.seek-own-inside.result c.seek-own-inside.ensures c.further-own.result c.further-own.ensures c.if-own.true in
+    let left = c.seek_from-first.ensures in
+    let found = stopped-inside m μ next c.args.at c.args.place i c.child-left.result c.child-right.result c.args.link (opened m i c.child-left.result c.child-right.result c.args.link c.child-left.ensures c.child-right.ensures c.in-Some.is) c.seek_from-first.result (λ z held. record { within = left.within z held; finds = left.finds z held }) c.if-first.false c.extent-before.result.bytes c.saturating_sub.result (λ z held. ap (λ (x : Extent). x.bytes) (c.extent-before.ensures z held.root_is held.holds)) c.saturating_sub.ensures c.seek_own-inside.result c.seek_own-inside.ensures c.further-own.result c.further-own.ensures c.if-own.true in
     record { within = λ z held. (found z held).within; finds = λ z held. (found z held).finds }
 
 pub further-requires : goal.further-requires
@@ -119,9 +119,9 @@ further-requires g t c =
     let i = c.in-Some.i in
     let μ = g.S.Forward.scale c.args.search.now in
     let next = g.S.Forward.goes c.args.search.now in
-    let left = c.seek-from-first.ensures in
-    let right = c.seek-from-rest.ensures in
-    all-fits m μ next c.args.at c.args.place i c.child-left.result c.child-right.result c.args.link (opened m i c.child-left.result c.child-right.result c.args.link c.child-left.ensures c.child-right.ensures c.in-Some.is) c.seek-from-first.result (λ z held. record { within = left.within z held; finds = left.finds z held }) c.if-first.false c.extent-before.result.bytes c.saturating-sub.result (λ z held. ap (λ (x : Extent). x.bytes) (c.extent-before.ensures z held.root_is held.holds)) c.saturating-sub.ensures c.seek-own-inside.result c.seek-own-inside.ensures c.further-own.result c.further-own.ensures c.if-own.false c.chunk-length.result c.saturating-sub-2.result c.chunk-length.ensures c.saturating-sub-2.ensures c.seek-from-rest.result (λ z held. record { within = right.within z held; finds = right.finds z held }) c.requires.0 c.requires.1
+    let left = c.seek_from-first.ensures in
+    let right = c.seek_from-rest.ensures in
+    all-fits m μ next c.args.at c.args.place i c.child-left.result c.child-right.result c.args.link (opened m i c.child-left.result c.child-right.result c.args.link c.child-left.ensures c.child-right.ensures c.in-Some.is) c.seek_from-first.result (λ z held. record { within = left.within z held; finds = left.finds z held }) c.if-first.false c.extent-before.result.bytes c.saturating_sub.result (λ z held. ap (λ (x : Extent). x.bytes) (c.extent-before.ensures z held.root_is held.holds)) c.saturating_sub.ensures c.seek_own-inside.result c.seek_own-inside.ensures c.further-own.result c.further-own.ensures c.if-own.false c.chunk_length.result c.saturating_sub-2.result c.chunk_length.ensures c.saturating_sub-2.ensures c.seek_from-rest.result (λ z held. record { within = right.within z held; finds = right.finds z held }) c.requires.0 c.requires.1
 
 pub returns : goal.returns
 returns g t c =
@@ -129,7 +129,7 @@ returns g t c =
     let i = c.in-Some.i in
     let μ = g.S.Forward.scale c.args.search.now in
     let next = g.S.Forward.goes c.args.search.now in
-    let left = c.seek-from-first.ensures in
-    let right = c.seek-from-rest.ensures in
-    let found = found_all m μ next c.args.at c.args.place i c.child-left.result c.child-right.result c.args.link (opened m i c.child-left.result c.child-right.result c.args.link c.child-left.ensures c.child-right.ensures c.in-Some.is) c.seek-from-first.result (λ z held. record { within = left.within z held; finds = left.finds z held }) c.if-first.false c.extent-before.result.bytes c.saturating-sub.result (λ z held. ap (λ (x : Extent). x.bytes) (c.extent-before.ensures z held.root_is held.holds)) c.saturating-sub.ensures c.seek-own-inside.result c.seek-own-inside.ensures c.further-own.result c.further-own.ensures c.if-own.false c.chunk-length.result c.saturating-sub-2.result c.chunk-length.ensures c.saturating-sub-2.ensures c.seek-from-rest.result (λ z held. record { within = right.within z held; finds = right.finds z held }) c.further.result c.further.ensures in
+    let left = c.seek_from-first.ensures in
+    let right = c.seek_from-rest.ensures in
+    let found = found_all m μ next c.args.at c.args.place i c.child-left.result c.child-right.result c.args.link (opened m i c.child-left.result c.child-right.result c.args.link c.child-left.ensures c.child-right.ensures c.in-Some.is) c.seek_from-first.result (λ z held. record { within = left.within z held; finds = left.finds z held }) c.if-first.false c.extent-before.result.bytes c.saturating_sub.result (λ z held. ap (λ (x : Extent). x.bytes) (c.extent-before.ensures z held.root_is held.holds)) c.saturating_sub.ensures c.seek_own-inside.result c.seek_own-inside.ensures c.further-own.result c.further-own.ensures c.if-own.false c.chunk_length.result c.saturating_sub-2.result c.chunk_length.ensures c.saturating_sub-2.ensures c.seek_from-rest.result (λ z held. record { within = right.within z held; finds = right.finds z held }) c.further.result c.further.ensures in
     record { within = λ z held. (found z held).within; finds = λ z held. (found z held).finds }

@@ -2,5 +2,5 @@ use Rattle.slots.specs.View.{height-at}
 use Rattle.seek.proofs.seek_tree.+seek_from.Given as goal
 
 -- Each step goes down.
-abbrev pub decreases-seek-from : goal.decreases-seek-from
-decreases-seek-from g l = height-at l.memory.now l.link
+abbrev pub decreases-seek_from : goal.decreases-seek_from
+decreases-seek_from g l = height-at l.memory.now l.link

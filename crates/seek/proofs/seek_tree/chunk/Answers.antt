@@ -2,16 +2,16 @@ use Rattle.std.proofs.Common.{◌≡◌, ◌+◌, ◌-◌, ◌*◌, ◌≤◌, l
 use Rattle.slots.specs.View.{size_of}
 use Rattle.seek.proofs.seek_tree.chunk.Goals as goal
 
-pub slice-bounds-result-end : goal.slice-bounds-result-end
-slice-bounds-result-end g c =
+pub slice_bounds-result-end : goal.slice_bounds-result-end
+slice_bounds-result-end g c =
     let m = c.args.memory.now in
     let room = c.requires.0.store-each in
-    let fits : 64 * c.args.i + c.chunk-length.result ≤ length m.store.now = omega (arith, c.requires.1.0, c.requires.1.1, c.chunk-length.ensures) in
+    let fits : 64 * c.args.i + c.chunk_length.result ≤ length m.store.now = omega (arith, c.requires.1.0, c.requires.1.1, c.chunk_length.ensures) in
     search rules
 
 pub returns : goal.returns
 returns g c =
     let m = c.args.memory.now in
     let i = c.args.i in
-    let long : 64 * i + c.chunk-length.result - 64 * i ≡ size_of m i = omega (arith, c.chunk-length.ensures) in
+    let long : 64 * i + c.chunk_length.result - 64 * i ≡ size_of m i = omega (arith, c.chunk_length.ensures) in
     ap (λ n. take n (drop (64 * i) m.store.now)) long

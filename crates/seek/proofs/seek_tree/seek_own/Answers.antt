@@ -7,5 +7,5 @@ pub returns : goal.returns
 returns g c =
     let next = g.S.Forward.goes c.args.search.now in
     let bytes = c.chunk-bytes.result.now in
-    c.seek-bytes.ensures
+    c.seek_bytes.ensures
     ∙ ap (stop next c.args.at) (drop-capped c.args.place c.min-from.result bytes c.min-from.ensures ∙ ap (drop c.args.place) c.chunk-bytes.ensures)

@@ -14,8 +14,8 @@ loop-s-preserved c =
     let right = c.args.right.now in
     let s = c.loop-s.s in
     let h : s < 64 = omega arith in
-    filled_more (onward left right) (entry_at left) s c.loop-s.entries c.join-entries.result h
-    (c.join-entries.ensures ∙ ap (join-entries (get_or left s (still 0))) c.entry-at.ensures ∙ read-onward left right s c.told-left h) c.loop-s.invariant
+    filled_more (onward left right) (entry_at left) s c.loop-s.entries c.join_entries.result h
+    (c.join_entries.ensures ∙ ap (join-entries (get_or left s (still 0))) c.entry_at.ensures ∙ read-onward left right s c.told-left h) c.loop-s.invariant
 
 pub returns : goal.returns
 returns c =

@@ -6,11 +6,11 @@ use Rattle.model.specs.Calls.{answered}
 use Rattle.document.proofs.Opening.{can-prepare, still-fits}
 use Rattle.document.proofs.document.Document.try_open.Goals as goal
 
-pub invariant-of-self : goal.invariant-of-self
-invariant-of-self g c =
+pub invariant_of-self : goal.invariant_of-self
+invariant_of-self g c =
     let self = c.args.self.now in
     let T = self.tree.now in
-    let passes = sym c.in-default.ensures in
+    let passes = sym c.in_default.ensures in
     let done : c.prepare.result ≡ true = c.prepare.ensures.answer ∙ ap (λ (l : Lent). preparable T l.slots) c.lent-slots.ensures ∙ can-prepare T self.due c.args.states passes in
     let none = c.prepare.ensures.chunks ∙ cond-true c.prepare.result [] (chunks-now T) done in
     (still-fits T self.due c.args.states passes c.prepare.new.self none self.fitting, tt)
@@ -19,7 +19,7 @@ pub returns : goal.returns
 returns g c =
     let self = c.args.self.now in
     let T = self.tree.now in
-    let passes = sym c.in-default.ensures in
+    let passes = sym c.in_default.ensures in
     let done : c.prepare.result ≡ true = c.prepare.ensures.answer ∙ ap (λ (l : Lent). preparable T l.slots) c.lent-slots.ensures ∙ can-prepare T self.due c.args.states passes in
     let none = c.prepare.ensures.chunks ∙ cond-true c.prepare.result [] (chunks-now T) done in
     let all : usable-of c.prepare.new.self ≡ (lent-to T).slots = c.prepare.ensures.usable ∙ cond-true c.prepare.result c.lent-slots.result.slots (usable-of T) done ∙ ap (λ (l : Lent). l.slots) c.lent-slots.ensures in

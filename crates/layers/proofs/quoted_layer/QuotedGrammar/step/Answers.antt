@@ -3,8 +3,8 @@ use Rattle.automaton.proofs.Quoted.{below-within}
 use Rattle.layers.proofs.quoted_layer.QuotedGrammar.step.Goals as goal
 
 -- Both parts are counts of at most 64 or states below one.
-pub overflow-add-result : goal.overflow-add-result
-overflow-add-result g c =
+pub overflow_add-result : goal.overflow_add-result
+overflow_add-result g c =
     let below = g.G.Grammar.meaning c.args.self.now.below in
     let lawful = g.G.Grammar.lawful c.args.self.now.below in
     let within = below-within below c.args.state c.in-Below.s c.in-Below.ensures in

@@ -15,8 +15,8 @@ few g c =
     let within : c.args.state < region-count (below.meaning layer.below) (inner.meaning layer.inner) = omega (arith, c.count.ensures, c.if-state-count.false) in
     simp (c.count-n.ensures, c.count-m.ensures, c.step.ensures) (entered-few (below.meaning layer.below) (inner.meaning layer.inner) (below.lawful layer.below) (inner.lawful layer.inner) c.args.state c.in-Below.s c.args.byte within c.in-Below.ensures)
 
-pub overflow-mul-result : goal.overflow-mul-result
-overflow-mul-result g c = omega (arith, few g c)
+pub overflow_mul-result : goal.overflow_mul-result
+overflow_mul-result g c = omega (arith, few g c)
 
-pub overflow-add-result : goal.overflow-add-result
-overflow-add-result g c = omega (arith, few g c)
+pub overflow_add-result : goal.overflow_add-result
+overflow_add-result g c = omega (arith, few g c)

@@ -5,8 +5,8 @@ use Rattle.slots.proofs.Reading.{tree_is, sound-whole}
 use Rattle.slots.proofs.Preparing.{whole-none}
 use Rattle.tree.proofs.chunk_tree.ChunkTree.new.Goals as goal
 
-pub invariant-of-result : goal.invariant-of-result
-invariant-of-result g c = (sound-whole (whole-none _ refl refl), tt)
+pub invariant_of-result : goal.invariant_of-result
+invariant_of-result g c = (sound-whole (whole-none _ refl refl), tt)
 
 pub returns : goal.returns
 returns g c =

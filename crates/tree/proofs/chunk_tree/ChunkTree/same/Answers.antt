@@ -14,8 +14,8 @@ returns-then-given-bytes g c =
       λ both. let long = ap length both.1 in let no_room : ⊥ = omega (arith, between_left c.args.place (c.args.place + length given) text, long) in absurd no_room,
     )
 
-pub same-range-requires : goal.same-range-requires
-same-range-requires g c =
+pub same_range-requires : goal.same_range-requires
+same_range-requires g c =
     let text = joined (chunks-now c.args.self.now) in
     let given = c.args.given.now in
     let all = c.bytes-bytes.ensures.is in

@@ -11,15 +11,15 @@ use Rattle.measure.proofs.Walk.{same-entry}
 use Rattle.walks.proofs.walk_meter.Walk.walk_from.Goals as goal
 use Rattle.walks.proofs.walk_meter.Walk.walk_from.Goals.{in-Plain, in-Opening, in-Closing, in-Closing-2}
 
-pub overflow-add-openings : goal.overflow-add-openings
-overflow-add-openings g c =
+pub overflow_add-openings : goal.overflow_add-openings
+overflow_add-openings g c =
     let a = g.G.Grammar.meaning c.args.self.now.grammar in
     let bytes = c.args.bytes.now in
     let i = c.loop-byte.byte-index in
     omega (arith, unmatched-few a c.args.state (take i bytes), length-take-le i bytes (omega arith))
 
-pub overflow-add-closings : goal.overflow-add-closings
-overflow-add-closings g c =
+pub overflow_add-closings : goal.overflow_add-closings
+overflow_add-closings g c =
     let a = g.G.Grammar.meaning c.args.self.now.grammar in
     let bytes = c.args.bytes.now in
     let i = c.loop-byte.byte-index in
@@ -46,7 +46,7 @@ loop-byte-preserved g c =
     let closed = c.loop-byte.invariant.1 in
     let opened = c.loop-byte.invariant.2 in
     let part = c.role.ensures in
-    let next = c.step-now-in.ensures in
+    let next = c.step-now_in.ensures in
     let walked = walk_more a s bytes i c.loop-byte-test.true in
     let more = closings-more a s bytes i c.loop-byte-test.true in
     let more' = openings-more a s bytes i c.loop-byte-test.true in

@@ -8,4 +8,4 @@ abbrev pub invariant-loop-byte : goal.invariant-loop-byte
 invariant-loop-byte g l =
     let a = g.G.Grammar.meaning l.self.grammar in
     let front = take l.byte-index l.bytes in
-    (l.now-in ≡ walk a l.state front) × (l.closings ≡ unmatched-closings a l.state front) × (l.openings ≡ unmatched-openings a l.state front)
+    (l.now_in ≡ walk a l.state front) × (l.closings ≡ unmatched-closings a l.state front) × (l.openings ≡ unmatched-openings a l.state front)

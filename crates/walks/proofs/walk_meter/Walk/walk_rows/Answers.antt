@@ -7,8 +7,8 @@ use Rattle.walks.proofs.walk_meter.Walk.walk_rows.Goals as goal
 pub loop-s-init : goal.loop-s-init
 loop-s-init g c =
     let a = g.G.Grammar.meaning c.args.self.now.grammar in
-    let made = c.still-rows-entries.ensures in
-    filled_none (λ s. entry a s c.args.bytes.now) still c.still-rows-entries.result (ap length made ∙ length-rows still)
+    let made = c.still_rows-entries.ensures in
+    filled_none (λ s. entry a s c.args.bytes.now) still c.still_rows-entries.result (ap length made ∙ length-rows still)
     (λ s h. ap (λ xs. get_or xs s (still 0)) made ∙ get_d_rows still s (still 0) h)
 
 pub loop-s-preserved : goal.loop-s-preserved
@@ -16,7 +16,7 @@ loop-s-preserved g c =
     let a = g.G.Grammar.meaning c.args.self.now.grammar in
     let lawful = g.G.Grammar.lawful c.args.self.now.grammar in
     let within : c.loop-s.s < 64 = omega (arith, lawful.few-states, c.count-s-end.ensures) in
-    filled_more (λ s. entry a s c.args.bytes.now) still c.loop-s.s c.loop-s.entries c.walk-from.result within c.walk-from.ensures c.loop-s.invariant
+    filled_more (λ s. entry a s c.args.bytes.now) still c.loop-s.s c.loop-s.entries c.walk_from.result within c.walk_from.ensures c.loop-s.invariant
 
 pub returns : goal.returns
 returns g c =

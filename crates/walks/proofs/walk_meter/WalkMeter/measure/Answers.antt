@@ -17,4 +17,4 @@ returns g c =
     let a = g.G.Grammar.meaning c.args.self.now.grammar in
     let lawful = g.G.Grammar.lawful c.args.self.now.grammar in
     let bytes = c.args.bytes.now in
-    ap Within (same-passage (omega arith) c.walk-rows.ensures) ∙ sym (walk_is a lawful bytes ∙ bounded-within (passage a) bytes c.if-bytes.false)
+    ap Within (same-passage (omega arith) c.walk_rows.ensures) ∙ sym (walk_is a lawful bytes ∙ bounded-within (passage a) bytes c.if-bytes.false)

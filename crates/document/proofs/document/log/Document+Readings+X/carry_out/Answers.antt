@@ -21,14 +21,14 @@ returns-in-Open g c =
     let a = g.G.Grammar.meaning c.args.meter.now.first.grammar in
     let d = c.args.self.now in
     let o = open-refusal (model_of d) c.in-Open.states in
-    let told = c.try-open.ensures in
+    let told = c.try_open.ensures in
     record {
-      obeys = λ kept. subst (λ (k : Call). Obeys a (record { document = d; screen = c.args.screen.now; buffer = c.args.buffer.now }) (record { call = k; answer = c.answer-unless.result; after = record { document = c.try-open.new.self; screen = c.args.screen.now; buffer = c.args.buffer.now } })) (sym c.in-Open.is) (record {
-        answer-is = c.answer-unless.ensures ∙ reply o c.try-open.result told.answer Pass;
-        model_is = told.after ∙ leaves o c.try-open.result told.answer (model_of d) (opened (model_of d));
+      obeys = λ kept. subst (λ (k : Call). Obeys a (record { document = d; screen = c.args.screen.now; buffer = c.args.buffer.now }) (record { call = k; answer = c.answer_unless.result; after = record { document = c.try_open.new.self; screen = c.args.screen.now; buffer = c.args.buffer.now } })) (sym c.in-Open.is) (record {
+        answer-is = c.answer_unless.ensures ∙ reply o c.try_open.result told.answer Pass;
+        model_is = told.after ∙ leaves o c.try_open.result told.answer (model_of d) (opened (model_of d));
         screen-is = left-same o c.args.screen.now;
         buffer-is = left-same o c.args.buffer.now;
-        refused-same = where-refused o c.try-open.result told.answer (Unchanged d c.try-open.new.self) told.same;
+        refused-same = where-refused o c.try_open.result told.answer (Unchanged d c.try_open.new.self) told.same;
       });
       keeps = told.keeps _;
     }
@@ -40,15 +40,15 @@ returns-in-Paint g c =
     let screen = c.args.screen.now in
     let change = c.in-Paint.change in
     let o = paint-refusal (model_of d) change (length screen) in
-    let r = c.try-paint.result in
-    let told = c.try-paint.ensures in
+    let r = c.try_paint.result in
+    let told = c.try_paint.ensures in
     record {
-      obeys = λ kept. subst (λ (k : Call). Obeys a (record { document = d; screen = screen; buffer = c.args.buffer.now }) (record { call = k; answer = c.answer-unless-in-Paint.result; after = record { document = c.try-paint.new.self; screen = c.try-paint.new.screen; buffer = c.args.buffer.now } })) (sym c.in-Paint.is) (record {
-        answer-is = c.answer-unless-in-Paint.ensures ∙ reply o r told.answer Pass;
+      obeys = λ kept. subst (λ (k : Call). Obeys a (record { document = d; screen = screen; buffer = c.args.buffer.now }) (record { call = k; answer = c.answer_unless-in-Paint.result; after = record { document = c.try_paint.new.self; screen = c.try_paint.new.screen; buffer = c.args.buffer.now } })) (sym c.in-Paint.is) (record {
+        answer-is = c.answer_unless-in-Paint.ensures ∙ reply o r told.answer Pass;
         model_is = told.after ∙ leaves o r told.answer (model_of d) (settled (model_of d));
-        screen-is = painted-way o r told.answer screen (painted a (text d) change screen) c.try-paint.new.screen _ _ kept told.painted told.same;
+        screen-is = painted-way o r told.answer screen (painted a (text d) change screen) c.try_paint.new.screen _ _ kept told.painted told.same;
         buffer-is = left-same o c.args.buffer.now;
-        refused-same = λ f e. (where-refused o r told.answer (Unchanged d c.try-paint.new.self × (c.try-paint.new.screen ≡ screen)) told.same f e).0;
+        refused-same = λ f e. (where-refused o r told.answer (Unchanged d c.try_paint.new.self × (c.try_paint.new.screen ≡ screen)) told.same f e).0;
       });
       keeps = λ kept. subst (λ T. Kept-by T (document-measure a (g.H.Meter.scale c.args.meter.now.second.second))) (sym told.tree) kept;
     }
@@ -75,8 +75,8 @@ returns-in-Text g c =
     let both = cond-made r out (with-front part (take (cells - 0) buffer)) (take (cells - 0) buffer) told.written in
     let fits : o ≡ None → length part ≤ cells = λ e. let known = range-room (model_of d) from to (min room (length buffer)) e in omega (arith, length-between from to (text d) known.0, known.1, is) in
     record {
-      obeys = λ kept. subst (λ (k : Call). Obeys a (record { document = d; screen = screen; buffer = buffer }) (record { call = k; answer = c.answer-unless-in-Text.result; after = record { document = d; screen = screen; buffer = out ++ drop (cells - 0) buffer } })) (sym c.in-Text.is) (record {
-        answer-is = c.answer-unless-in-Text.ensures ∙ reply o r answer Written;
+      obeys = λ kept. subst (λ (k : Call). Obeys a (record { document = d; screen = screen; buffer = buffer }) (record { call = k; answer = c.answer_unless-in-Text.result; after = record { document = d; screen = screen; buffer = out ++ drop (cells - 0) buffer } })) (sym c.in-Text.is) (record {
+        answer-is = c.answer_unless-in-Text.ensures ∙ reply o r answer Written;
         model_is = left-same o (model_of d);
         screen-is = left-same o screen;
         buffer-is = buffer-behind o r answer part buffer out cells (cells - 0) same fits both.0 both.1;
@@ -106,8 +106,8 @@ returns-in-Colours g c =
     let out = c.colours.new.out in
     let fits : o ≡ None → length part ≤ cells = λ e. let known = range-room (model_of d) from to (min room (length buffer)) e in omega (arith, length-between from to (colours a (text d)) (omega (arith, known.0, colours-length a 0 (text d))), known.1, is) in
     record {
-      obeys = λ kept. subst (λ (k : Call). Obeys a (record { document = d; screen = screen; buffer = buffer }) (record { call = k; answer = c.answer-unless-in-Colours.result; after = record { document = d; screen = screen; buffer = out ++ drop (cells - 0) buffer } })) (sym c.in-Colours.is) (record {
-        answer-is = c.answer-unless-in-Colours.ensures ∙ reply o r answer Written;
+      obeys = λ kept. subst (λ (k : Call). Obeys a (record { document = d; screen = screen; buffer = buffer }) (record { call = k; answer = c.answer_unless-in-Colours.result; after = record { document = d; screen = screen; buffer = out ++ drop (cells - 0) buffer } })) (sym c.in-Colours.is) (record {
+        answer-is = c.answer_unless-in-Colours.ensures ∙ reply o r answer Written;
         model_is = left-same o (model_of d);
         screen-is = left-same o screen;
         buffer-is = buffer-behind o r answer part buffer out cells (cells - 0) same fits (IfOk-weaker r _ _ (λ _ h. h kept) told.written) told.same;
