@@ -58,7 +58,7 @@ renew-requires g t c =
     let first = c.rewrite.ensures _ left in
     let own = own-ready μ top c.args.n bytes q from (from + q) first in
     let far = c.requires.1.1 in
-    ((own.0, (own.1.0, own.1.1)), (c.requires.1.0, omega arith))
+    record { roomy = (own.0, (own.1.0, own.1.1)); count_value = (c.requires.1.0, omega arith) }
 
 pub rewrite-requires-2 : goal.rewrite-requires-2
 rewrite-requires-2 g t c κs within =

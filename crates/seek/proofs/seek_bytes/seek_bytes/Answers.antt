@@ -8,13 +8,13 @@ loop-i-init g c = sym (shift_none (stop (g.S.Forward.goes c.args.search.now) c.a
 
 pub returns-in-None : goal.returns-in-None
 returns-in-None g c =
-    stops-here (g.S.Forward.goes c.args.search.now) c.args.bytes.now _ c.loop-i.i c.loop-i.now-at c.loop-i.invariant c.loop-i-test.true (sym c.next.ensures ∙ c.in-None.is)
+    stops-here (g.S.Forward.goes c.args.search.now) c.args.bytes.now _ c.loop-i.i c.loop-i.now_at c.loop-i.invariant c.loop-i-test.true (sym c.next.ensures ∙ c.in-None.is)
 
 pub loop-i-preserved : goal.loop-i-preserved
 loop-i-preserved g c =
-    goes_on (g.S.Forward.goes c.args.search.now) c.args.bytes.now _ c.loop-i.i c.loop-i.now-at c.loop-i.invariant c.loop-i-test.true c.in-Some.further (sym c.next.ensures ∙ c.in-Some.is)
+    goes_on (g.S.Forward.goes c.args.search.now) c.args.bytes.now _ c.loop-i.i c.loop-i.now_at c.loop-i.invariant c.loop-i-test.true c.in-Some.further (sym c.next.ensures ∙ c.in-Some.is)
 
 pub returns : goal.returns
 returns g c =
     let all : c.loop-i.i ≡ length c.args.bytes.now = omega arith in
-    ran-through (g.S.Forward.goes c.args.search.now) c.args.bytes.now _ c.loop-i.i c.loop-i.now-at c.loop-i.invariant all
+    ran-through (g.S.Forward.goes c.args.search.now) c.args.bytes.now _ c.loop-i.i c.loop-i.now_at c.loop-i.invariant all

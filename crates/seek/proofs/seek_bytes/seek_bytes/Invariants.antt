@@ -6,4 +6,4 @@ use Rattle.seek.proofs.seek_bytes.seek_bytes.Given as goal
 abbrev pub invariant-loop-i : goal.invariant-loop-i
 invariant-loop-i g l =
     let goes = g.S.Forward.goes l.search in
-    stop goes l.initial.now-at l.bytes ≡ shifted l.i (stop goes l.now_at (drop l.i l.bytes))
+    stop goes l.initial.now_at l.bytes ≡ shifted l.i (stop goes l.now_at (drop l.i l.bytes))
