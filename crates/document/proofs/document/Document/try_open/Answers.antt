@@ -13,7 +13,7 @@ invariant_of-self g c =
     let passes = sym c.in_default.ensures in
     let done : c.prepare.result ≡ true = c.prepare.ensures.answer ∙ ap (λ (l : Lent). preparable T l.slots) c.lent-slots.ensures ∙ can-prepare T self.due c.args.states passes in
     let none = c.prepare.ensures.chunks ∙ cond-true c.prepare.result [] (chunks-now T) done in
-    (still-fits T self.due c.args.states passes c.prepare.new.self none self.fitting, tt)
+    record { fitting = still-fits T self.due c.args.states passes c.prepare.new.self none self.fitting }
 
 pub returns : goal.returns
 returns g c =

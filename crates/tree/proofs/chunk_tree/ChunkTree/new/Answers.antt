@@ -6,7 +6,7 @@ use Rattle.slots.proofs.Preparing.{whole-none}
 use Rattle.tree.proofs.chunk_tree.ChunkTree.new.Goals as goal
 
 pub invariant_of-result : goal.invariant_of-result
-invariant_of-result g c = (sound-whole (whole-none _ refl refl), tt)
+invariant_of-result g c = record { sound = sound-whole (whole-none _ refl refl) }
 
 pub returns : goal.returns
 returns g c =
