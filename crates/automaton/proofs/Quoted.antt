@@ -3,11 +3,11 @@ use Rattle.std.proofs.Common.{◌≡◌, ℕ, ◌*◌, ◌<◌, ltb, arith}
 use Rattle.std.proofs.lemmas.Bool.{cond_both, ltb-true, ltb-false}
 use Rattle.std.proofs.lemmas.Bool.Decides.{nat_tests}
 use Rattle.automaton.specs.Automaton.{Automaton, Lawful}
-use Rattle.automaton.specs.Quoted.{quoted, quoted-state, quoted-step, quoted-class}
+use Rattle.automaton.specs.Quoted.{quoted, quoted_state, quoted_step, quoted_class}
 use Rattle.automaton.specs.Layer.{fitted}
 use Rattle.automaton.specs.declared.layer_state.QuotedState.{QuotedState}
 use Rattle.automaton.specs.declared.layer_state.QuotedState.TheVariants.{Below, Inside, Escaped}
-use Rattle.automaton.proofs.Lawful.{automaton-lawful, fitted-few, fitted-is}
+use Rattle.automaton.proofs.Lawful.{automaton_lawful, fitted_few, fitted_is}
 
 module _ (G : Automaton) (lawful : Lawful G) where
   -- the states that the layer can be in
@@ -16,28 +16,28 @@ module _ (G : Automaton) (lawful : Lawful G) where
   Fits (Inside t) = t < G.count
   Fits (Escaped t) = t < G.count
 
-  state-fits : (s : ℕ) → s < 3 * G.count → Fits (quoted-state G s)
-  state-fits s h =
+  state_fits : (s : ℕ) → s < 3 * G.count → Fits (quoted_state G s)
+  state_fits s h =
       let n = G.count in
       cond_both (ltb s n) _ _ Fits (λ e. ltb-true s n e)
       (λ e. cond_both (ltb s (2 * n)) _ _ Fits (λ f. omega (arith, ltb-false s n e, ltb-true s (2 * n) f)) (λ f. omega (arith, ltb-false s (2 * n) f)))
 
-  step_fits : (p : QuotedState) (b : ℕ) → Fits p → quoted-step G p b < 3 * G.count
-  step_fits (Below s) b h = grind (arith, nat_tests, lawful.step-below s b h)
-  step_fits (Inside t) b h = grind (arith, nat_tests, lawful.step-below t b h)
-  step_fits (Escaped t) b h = grind (arith, nat_tests, lawful.step-below t b h)
+  step_fits : (p : QuotedState) (b : ℕ) → Fits p → quoted_step G p b < 3 * G.count
+  step_fits (Below s) b h = grind (arith, nat_tests, lawful.step_below s b h)
+  step_fits (Inside t) b h = grind (arith, nat_tests, lawful.step_below t b h)
+  step_fits (Escaped t) b h = grind (arith, nat_tests, lawful.step_below t b h)
 
-  class-small : (p : QuotedState) (b : ℕ) → quoted-class G p b < 16
-  class-small (Below s) b = grind (arith, nat_tests, lawful.class-below s b)
-  class-small (Inside t) b = grind (arith, nat_tests, lawful.class-below t b)
-  class-small (Escaped t) b = grind (arith, nat_tests, lawful.class-below t b)
+  class_small : (p : QuotedState) (b : ℕ) → quoted_class G p b < 16
+  class_small (Below s) b = grind (arith, nat_tests, lawful.class_below s b)
+  class_small (Inside t) b = grind (arith, nat_tests, lawful.class_below t b)
+  class_small (Escaped t) b = grind (arith, nat_tests, lawful.class_below t b)
 
-  pub quoted-lawful : Lawful (quoted G)
-  quoted-lawful =
-      automaton-lawful (fitted (3 * G.count)) _ _ _ (fitted-few (3 * G.count))
-      (λ s b h. let e = fitted-is (3 * G.count) s h in rw e (step_fits (quoted-state G s) b (state-fits s (rw e at h))))
-      (λ s b. class-small (quoted-state G s) b)
+  pub quoted_lawful : Lawful (quoted G)
+  quoted_lawful =
+      automaton_lawful (fitted (3 * G.count)) _ _ _ (fitted_few (3 * G.count))
+      (λ s b h. let e = fitted_is (3 * G.count) s h in rw e (step_fits (quoted_state G s) b (state_fits s (rw e at h))))
+      (λ s b. class_small (quoted_state G s) b)
 
 -- A state that is the grammar's own lies below its count.
-pub below-within : (G : Automaton) (state s : ℕ) → Below s ≡ quoted-state G state → s < G.count
-below-within G state s e = grind (arith, nat_tests)
+pub below_within : (G : Automaton) (state s : ℕ) → Below s ≡ quoted_state G state → s < G.count
+below_within G state s e = grind (arith, nat_tests)

@@ -2,33 +2,33 @@
 use Rattle.std.proofs.Common.{◌≡◌, ℕ, suc, ◌+◌, ◌<◌, ◌≤◌, List, [], ◌∷◌, ◌++◌, length, get_or, take, drop, set, sym, refl, ap, ◌∙◌, arith}
 use Rattle.std.proofs.lemmas.List.{take_more, drop_more, set_at, append_assoc, get_or_at, get_or_append_left}
 use Rattle.automaton.specs.Automaton.{Automaton, Lawful}
-use Rattle.automaton.specs.Walk.{walk, colours-from}
+use Rattle.automaton.specs.Walk.{walk, colours_from}
 
 module _ (a : Automaton) where
-  pub walk-append : (s : ℕ) (xs ys : List ℕ) → walk a s (xs ++ ys) ≡ walk a (walk a s xs) ys
-  walk-append s [] ys = refl
-  walk-append s (b ∷ xs) ys = walk-append (a.step s b) xs ys
+  pub walk_append : (s : ℕ) (xs ys : List ℕ) → walk a s (xs ++ ys) ≡ walk a (walk a s xs) ys
+  walk_append s [] ys = refl
+  walk_append s (b ∷ xs) ys = walk_append (a.step s b) xs ys
 
-  pub colours-append : (s : ℕ) (xs ys : List ℕ) → colours-from a s (xs ++ ys) ≡ colours-from a s xs ++ colours-from a (walk a s xs) ys
-  colours-append s [] ys = refl
-  colours-append s (b ∷ xs) ys = ap (λ l. a.class s b ∷ l) (colours-append (a.step s b) xs ys)
+  pub colours_append : (s : ℕ) (xs ys : List ℕ) → colours_from a s (xs ++ ys) ≡ colours_from a s xs ++ colours_from a (walk a s xs) ys
+  colours_append s [] ys = refl
+  colours_append s (b ∷ xs) ys = ap (λ l. a.class s b ∷ l) (colours_append (a.step s b) xs ys)
 
-  pub colours-length : (s : ℕ) (xs : List ℕ) → length (colours-from a s xs) ≡ length xs
-  colours-length s [] = refl
-  colours-length s (b ∷ xs) = ap suc (colours-length (a.step s b) xs)
+  pub colours_length : (s : ℕ) (xs : List ℕ) → length (colours_from a s xs) ≡ length xs
+  colours_length s [] = refl
+  colours_length s (b ∷ xs) = ap suc (colours_length (a.step s b) xs)
 
   -- one byte more
   pub walk_more : (s : ℕ) (xs : List ℕ) (i : ℕ) → i < length xs → walk a s (take (i + 1) xs) ≡ a.step (walk a s (take i xs)) (get_or xs i 0)
-  walk_more s xs i h = ap (walk a s) (take_more xs i 0 h) ∙ walk-append s (take i xs) (get_or xs i 0 ∷ [])
+  walk_more s xs i h = ap (walk a s) (take_more xs i 0 h) ∙ walk_append s (take i xs) (get_or xs i 0 ∷ [])
 
-  pub colours-more : (s : ℕ) (xs : List ℕ) (i : ℕ) → i < length xs → colours-from a s (take (i + 1) xs) ≡ colours-from a s (take i xs) ++ (a.class (walk a s (take i xs)) (get_or xs i 0) ∷ [])
-  colours-more s xs i h = ap (colours-from a s) (take_more xs i 0 h) ∙ colours-append s (take i xs) (get_or xs i 0 ∷ [])
+  pub colours_more : (s : ℕ) (xs : List ℕ) (i : ℕ) → i < length xs → colours_from a s (take (i + 1) xs) ≡ colours_from a s (take i xs) ++ (a.class (walk a s (take i xs)) (get_or xs i 0) ∷ [])
+  colours_more s xs i h = ap (colours_from a s) (take_more xs i 0 h) ∙ colours_append s (take i xs) (get_or xs i 0 ∷ [])
 
   -- what is left of a run of bytes, one byte on
-  pub walk-rest : (s : ℕ) (xs : List ℕ) (i : ℕ) → i < length xs → walk a s (drop i xs) ≡ walk a (a.step s (get_or xs i 0)) (drop (i + 1) xs)
-  walk-rest s xs i h = ap (walk a s) (drop_more xs i 0 h)
+  pub walk_rest : (s : ℕ) (xs : List ℕ) (i : ℕ) → i < length xs → walk a s (drop i xs) ≡ walk a (a.step s (get_or xs i 0)) (drop (i + 1) xs)
+  walk_rest s xs i h = ap (walk a s) (drop_more xs i 0 h)
 
 -- A write behind what was written so far.
-pub write-next : (front out : List ℕ) (i v : ℕ) → length front ≡ i → i < length out → set (front ++ drop i out) i v ≡ (front ++ (v ∷ [])) ++ drop (i + 1) out
-write-next front out i v long within =
+pub write_next : (front out : List ℕ) (i v : ℕ) → length front ≡ i → i < length out → set (front ++ drop i out) i v ≡ (front ++ (v ∷ [])) ++ drop (i + 1) out
+write_next front out i v long within =
     ap (λ l. set (front ++ l) i v) (drop_more out i 0 within) ∙ set_at front (get_or out i 0) (drop (i + 1) out) v i long ∙ sym (append_assoc front (v ∷ []) (drop (i + 1) out))

@@ -15,13 +15,13 @@ pub record Automaton : Type 0 where
 
 -- What is true of every grammar.
 pub record Lawful (a : Automaton) : Type 0 where
-  pub few-states : a.count ≤ 64
-  pub step-below : (s b : ℕ) → s < a.count → a.step s b < a.count
-  pub class-below : (s b : ℕ) → a.class s b < 16
+  pub few_states : a.count ≤ 64
+  pub step_below : (s b : ℕ) → s < a.count → a.step s b < a.count
+  pub class_below : (s b : ℕ) → a.class s b < 16
   -- a state at or above the count stays, colours nothing and is not open
-  pub outside-stays : (s b : ℕ) → a.count ≤ s → a.step s b ≡ s
-  pub outside-blank : (s b : ℕ) → a.count ≤ s → a.class s b ≡ 0
-  pub outside-shut : (s : ℕ) → a.count ≤ s → a.is_open s ≡ false
+  pub outside_stays : (s b : ℕ) → a.count ≤ s → a.step s b ≡ s
+  pub outside_blank : (s b : ℕ) → a.count ≤ s → a.class s b ≡ 0
+  pub outside_shut : (s : ℕ) → a.count ≤ s → a.is_open s ≡ false
 
 -- An automaton of n states from answers that are given below n only: outside, a state stays,
 -- has class 0 and is not open. Scene words and every layer are made by it.

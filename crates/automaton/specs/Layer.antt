@@ -8,22 +8,22 @@ abbrev pub fitted : ℕ → ℕ
 fitted n = cond (nat_le n 64) n 0
 
 -- Each begin byte stands here and nowhere else in the definitions.
-abbrev pub comment-begin : ℕ
-comment-begin = 0x23
+abbrev pub comment_begin : ℕ
+comment_begin = 0x23
 
 abbrev pub quote : ℕ
 quote = 0x22
 
-abbrev pub region-border : ℕ
-region-border = 0x60
+abbrev pub region_border : ℕ
+region_border = 0x60
 
 -- The byte behind a backslash in a string is taken as it is.
 abbrev pub backslash : ℕ
 backslash = 0x5C
 
 -- Comments and strings end at the end of their line at the latest.
-abbrev pub line-feed : ℕ
-line-feed = 0x0A
+abbrev pub line_feed : ℕ
+line_feed = 0x0A
 
 -- A begin byte begins its layer where it is read from an open state of G.
 abbrev pub begins : ℕ → Automaton → ℕ → ℕ → Bool

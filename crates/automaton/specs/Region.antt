@@ -3,30 +3,30 @@
 use Rattle.std.specs.Prelude.{ℕ, ◌+◌, ◌-◌, ◌*◌, ◌/◌, ◌%◌, Bool, cond, ◌==◌, nat_lt}
 use Rattle.automaton.specs.Automaton.{Automaton, automaton}
 use Rattle.automaton.specs.Class as class
-use Rattle.automaton.specs.Layer.{fitted, begins, region-border}
+use Rattle.automaton.specs.Layer.{fitted, begins, region_border}
 use Rattle.automaton.specs.declared.layer_state.RegionState.{RegionState}
 use Rattle.automaton.specs.declared.layer_state.RegionState.TheVariants.{Below, Inside}
 
 module _ (G H : Automaton) where
   -- With no state in H there is no region to enter, and the layer cannot be used.
-  abbrev pub region-count : ℕ
-  region-count = cond (H.count == 0) 0 (fitted (G.count + G.count * H.count))
+  abbrev pub region_count : ℕ
+  region_count = cond (H.count == 0) 0 (fitted (G.count + G.count * H.count))
 
-  abbrev pub region-state : ℕ → RegionState
-  region-state s = cond (nat_lt s G.count) (Below s) (Inside ((s - G.count) / H.count) ((s - G.count) % H.count))
+  abbrev pub region_state : ℕ → RegionState
+  region_state s = cond (nat_lt s G.count) (Below s) (Inside ((s - G.count) / H.count) ((s - G.count) % H.count))
 
   -- The border byte ends a region where H is open, and is H's like any other byte elsewhere.
-  abbrev pub region-step : RegionState → ℕ → ℕ
-  region-step (Below s) b = cond (begins region-border G s b) (G.count + H.count * G.step s b) (G.step s b)
-  region-step (Inside t u) b = cond (begins region-border H u b) t (G.count + H.count * t + H.step u b)
+  abbrev pub region_step : RegionState → ℕ → ℕ
+  region_step (Below s) b = cond (begins region_border G s b) (G.count + H.count * G.step s b) (G.step s b)
+  region_step (Inside t u) b = cond (begins region_border H u b) t (G.count + H.count * t + H.step u b)
 
-  abbrev pub region-class : RegionState → ℕ → ℕ
-  region-class (Below s) b = cond (begins region-border G s b) class.border (G.class s b)
-  region-class (Inside t u) b = cond (begins region-border H u b) class.border (H.class u b)
+  abbrev pub region_class : RegionState → ℕ → ℕ
+  region_class (Below s) b = cond (begins region_border G s b) class.border (G.class s b)
+  region_class (Inside t u) b = cond (begins region_border H u b) class.border (H.class u b)
 
-  abbrev pub region-open : RegionState → Bool
-  region-open (Below s) = G.is_open s
-  region-open (Inside t u) = H.is_open u
+  abbrev pub region_open : RegionState → Bool
+  region_open (Below s) = G.is_open s
+  region_open (Inside t u) = H.is_open u
 
   abbrev pub region : Automaton
-  region = automaton region-count (λ s. region-step (region-state s)) (λ s. region-class (region-state s)) (λ s. region-open (region-state s))
+  region = automaton region_count (λ s. region_step (region_state s)) (λ s. region_class (region_state s)) (λ s. region_open (region_state s))

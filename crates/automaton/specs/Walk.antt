@@ -9,14 +9,14 @@ walk a s [] = s
 walk a s (b ∷ bs) = walk a (a.step s b) bs
 
 -- The colours of bytes that are read from state s on: each byte's class from the state before it.
-abbrev pub colours-from : Automaton → ℕ → List ℕ → List ℕ
-colours-from a s [] = []
-colours-from a s (b ∷ bs) = a.class s b ∷ colours-from a (a.step s b) bs
+abbrev pub colours_from : Automaton → ℕ → List ℕ → List ℕ
+colours_from a s [] = []
+colours_from a s (b ∷ bs) = a.class s b ∷ colours_from a (a.step s b) bs
 
 -- The state before a place of a text: its walk begins in state 0 at place 0.
-abbrev pub state-before : Automaton → List ℕ → ℕ → ℕ
-state-before a text place = walk a 0 (take place text)
+abbrev pub state_before : Automaton → List ℕ → ℕ → ℕ
+state_before a text place = walk a 0 (take place text)
 
 -- The colours of a text.
 abbrev pub colours : Automaton → List ℕ → List ℕ
-colours a text = colours-from a 0 text
+colours a text = colours_from a 0 text

@@ -1,6 +1,6 @@
 // Trees put together with a slot between them, by relinking no more than one path. Everything is done from either side.
 ghost use Rattle.std.specs.Prelude.{◌≡◌, ℕ, suc, ◌+◌, ◌<◌, ◌≤◌, Some};
-ghost use Rattle.chunks.specs.Tree.{Tree, root, height as height-of, Level};
+ghost use Rattle.chunks.specs.Tree.{Tree, root, height as height_of, Level};
 ghost use Rattle.chunks.specs.Sides.{around};
 ghost use Rattle.slots.specs.Claim.{nothing};
 ghost use Rattle.slots.specs.View.{Roomy};
@@ -53,8 +53,8 @@ fn rotate_once<R: Copy, M: Meter<Reading = R>>(
     i: u16,
     short: Option<u16>,
 )
-    requires { (o : Tree) × ((n : Tree) × ((b : Tree) × (Leaning memory.old side outer o k inner n i short b × (height-of n ≤ height-of o)))) }
-    ensures { (o n b : Tree) → Leaning memory.old side outer o k inner n i short b → height-of n ≤ height-of o → Joined (M.scale meter.now) side memory.old (around side o k n) i b memory.new (around side o k (around side n i b)) }
+    requires { (o : Tree) × ((n : Tree) × ((b : Tree) × (Leaning memory.old side outer o k inner n i short b × (height_of n ≤ height_of o)))) }
+    ensures { (o n b : Tree) → Leaning memory.old side outer o k inner n i short b → height_of n ≤ height_of o → Joined (M.scale meter.now) side memory.old (around side o k n) i b memory.new (around side o k (around side n i b)) }
 {
     link_around(meter, memory, side, inner, i, short);
     link_around(meter, memory, side, outer, k, Some(i));
@@ -71,8 +71,8 @@ fn rotate_twice<R: Copy, M: Meter<Reading = R>>(
     i: u16,
     short: Option<u16>,
 )
-    requires { (o : Tree) × ((x : Tree) × ((y : Tree) × ((b : Tree) × (Leaning memory.old side outer o k (Some j) (around side x j y) i short b × (height-of o < height-of (around side x j y)))))) }
-    ensures { (o x y b : Tree) → Leaning memory.old side outer o k (Some j) (around side x j y) i short b → height-of o < height-of (around side x j y) → Joined (M.scale meter.now) side memory.old (around side o k (around side x j y)) i b memory.new (around side (around side o k x) j (around side y i b)) }
+    requires { (o : Tree) × ((x : Tree) × ((y : Tree) × ((b : Tree) × (Leaning memory.old side outer o k (Some j) (around side x j y) i short b × (height_of o < height_of (around side x j y)))))) }
+    ensures { (o x y b : Tree) → Leaning memory.old side outer o k (Some j) (around side x j y) i short b → height_of o < height_of (around side x j y) → Joined (M.scale meter.now) side memory.old (around side o k (around side x j y)) i b memory.new (around side (around side o k x) j (around side y i b)) }
 {
     let near = child(memory, j, side);
     let far = child(memory, j, side.other());
@@ -108,8 +108,8 @@ fn rotate<R: Copy, M: Meter<Reading = R>>(
     i: u16,
     short: Option<u16>,
 ) -> u16
-    requires { (a : Tree) × ((b : Tree) × (Ready memory.old (Some tall) a i short b × (height-of a ≡ suc (suc (height-of b))))) }
-    ensures { (a b : Tree) → Ready memory.old (Some tall) a i short b → height-of a ≡ suc (suc (height-of b)) → (t : Tree) × ((Some result ≡ root t) × Joined (M.scale meter.now) side memory.old a i b memory.new t) }
+    requires { (a : Tree) × ((b : Tree) × (Ready memory.old (Some tall) a i short b × (height_of a ≡ suc (suc (height_of b))))) }
+    ensures { (a b : Tree) → Ready memory.old (Some tall) a i short b → height_of a ≡ suc (suc (height_of b)) → (t : Tree) × ((Some result ≡ root t) × Joined (M.scale meter.now) side memory.old a i b memory.new t) }
 {
     let outer = child(memory, tall, side);
     let inner = child(memory, tall, side.other());

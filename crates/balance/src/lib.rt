@@ -1,5 +1,8 @@
 // Slots linked into a balanced tree: rotated, joined and split, by relinking no more than one path.
 // Each function asks that memory holds what it is told.
+
+#![tactic(auto)]
+
 pub mod join;
 pub mod link;
 pub mod split;

@@ -3,9 +3,9 @@ ghost use Rattle.std.specs.Prelude.{◌≡◌, ℕ, ◌+◌, ◌<◌, ◌≤◌,
 ghost use Rattle.chunks.specs.declared.side.Side.TheVariants.{Left};
 ghost use Rattle.chunks.specs.Tree.{Tree, node as node_over, root, Level};
 ghost use Rattle.slots.specs.Claim.{Claim, nothing, Says, Fair};
-ghost use Rattle.slots.specs.View.{extent-of, text_of, Roomy};
+ghost use Rattle.slots.specs.View.{extent_of, text_of, Roomy};
 ghost use Rattle.slots.specs.Holds.{Holds, Owned, Ready};
-ghost use Rattle.slots.specs.Join.{Linked, Placed-anew};
+ghost use Rattle.slots.specs.Join.{Linked, PlacedAnew};
 
 use meter::Meter;
 use slots::memory::Memory;
@@ -14,7 +14,7 @@ use slots::slot::{Extent, Node};
 // How large the tree is that a link leads to.
 pub fn extent<R: Copy>(memory: &Memory<R>, link: Option<u16>) -> Extent
     requires { (Roomy memory.now) × (((t : Tree) × ((link ≡ root t) × Holds nothing memory.now t))) }
-    ensures { (t : Tree) → link ≡ root t → Holds nothing memory.now t → result ≡ extent-of memory.now t }
+    ensures { (t : Tree) → link ≡ root t → Holds nothing memory.now t → result ≡ extent_of memory.now t }
 {
     let slots = &*memory.slots;
     match link {
@@ -53,7 +53,7 @@ fn reading_of<R: Copy, M: Meter<Reading = R>>(
 // How large the tree is that slot `i` makes with two others.
 fn extent_over<R: Copy>(memory: &Memory<R>, left: Option<u16>, i: u16, right: Option<u16>) -> Extent
     requires { (l : Tree) × ((r : Tree) × Ready memory.now left l i right r) }
-    ensures { (l r : Tree) → Ready memory.now left l i right r → result ≡ extent-of memory.now (node_over l i r) }
+    ensures { (l r : Tree) → Ready memory.now left l i right r → result ≡ extent_of memory.now (node_over l i r) }
 {
     let before = extent(memory, left);
     let behind = extent(memory, right);
@@ -68,7 +68,7 @@ fn extent_over<R: Copy>(memory: &Memory<R>, left: Option<u16>, i: u16, right: Op
 // Writes the place of slot `i` and the reading of what lies under it.
 fn place<R: Copy>(memory: &mut Memory<R>, i: u16, node: Node, sum: R)
     requires { (Roomy memory.old) × (i < memory.old.usable) }
-    ensures { Placed-anew memory.old i node sum memory.new }
+    ensures { PlacedAnew memory.old i node sum memory.new }
 {
     memory.slots[i as usize].node = node;
     memory.readings[i as usize] = sum;

@@ -1,5 +1,8 @@
 // Times the meter of walks beside a plain walk of the same bytes, when it is given the word `run`.
 // Without that word it writes nothing, so that a gate can run it.
+
+#![tactic(auto)]
+
 use grammar::Words;
 use layers::{Comment, Quoted};
 use measure::bounded_reading::Bounded;

@@ -9,50 +9,50 @@ use Rattle.chunks.specs.Footprint.{one, count, below}
 use Rattle.chunks.specs.Cut.{joined}
 use Rattle.chunks.specs.Spot.{shifted, spot_in}
 
-spot-first : (c : List ℕ) (cs : List (List ℕ)) (p : ℕ) → p < length c → spot_in (c ∷ cs) p ≡ record { chunk = 0; inside = p; size = length c }
-spot-first c cs p h = cond-true (ltb p (length c)) _ _ (lt-ltb p (length c) h)
+spot_first : (c : List ℕ) (cs : List (List ℕ)) (p : ℕ) → p < length c → spot_in (c ∷ cs) p ≡ record { chunk = 0; inside = p; size = length c }
+spot_first c cs p h = cond-true (ltb p (length c)) _ _ (lt-ltb p (length c) h)
 
-spot-later : (c : List ℕ) (cs : List (List ℕ)) (p : ℕ) → length c ≤ p → spot_in (c ∷ cs) p ≡ shifted 1 (spot_in cs (p - length c))
-spot-later c cs p h = cond-false (ltb p (length c)) _ _ (le-ltb p (length c) h)
+spot_later : (c : List ℕ) (cs : List (List ℕ)) (p : ℕ) → length c ≤ p → spot_in (c ∷ cs) p ≡ shifted 1 (spot_in cs (p - length c))
+spot_later c cs p h = cond-false (ltb p (length c)) _ _ (le-ltb p (length c) h)
 
 -- A place within the first chunks, or behind them.
-pub spot-left : (xs ys : List (List ℕ)) (p : ℕ) → p < length (joined xs) → spot_in (xs ++ ys) p ≡ spot_in xs p
-spot-left [] ys p h = let no : ⊥ = omega arith in absurd no
-spot-left (c ∷ xs) ys p h =
-    ⊎_elim (λ e. spot-first c (xs ++ ys) p e ∙ sym (spot-first c xs p e))
-    (λ e. spot-later c (xs ++ ys) p e ∙ ap (shifted 1) (spot-left xs ys (p - length c) (omega (arith, length-append c (joined xs)))) ∙ sym (spot-later c xs p e))
+pub spot_left : (xs ys : List (List ℕ)) (p : ℕ) → p < length (joined xs) → spot_in (xs ++ ys) p ≡ spot_in xs p
+spot_left [] ys p h = let no : ⊥ = omega arith in absurd no
+spot_left (c ∷ xs) ys p h =
+    ⊎_elim (λ e. spot_first c (xs ++ ys) p e ∙ sym (spot_first c xs p e))
+    (λ e. spot_later c (xs ++ ys) p e ∙ ap (shifted 1) (spot_left xs ys (p - length c) (omega (arith, length-append c (joined xs)))) ∙ sym (spot_later c xs p e))
     (cases_lt p (length c))
 
-pub spot-right : (xs ys : List (List ℕ)) (p : ℕ) → length (joined xs) ≤ p → spot_in (xs ++ ys) p ≡ shifted (length xs) (spot_in ys (p - length (joined xs)))
-spot-right [] ys p h =
+pub spot_right : (xs ys : List (List ℕ)) (p : ℕ) → length (joined xs) ≤ p → spot_in (xs ++ ys) p ≡ shifted (length xs) (spot_in ys (p - length (joined xs)))
+spot_right [] ys p h =
     let s = spot_in ys p in
     let e : p ≡ p - 0 = omega arith in
     let zero_more : s.chunk ≡ 0 + s.chunk = omega arith in
     let lift : s ≡ shifted 0 s = λ z. record { chunk = zero_more z; inside = s.inside; size = s.size } in
     lift ∙ ap (λ q. shifted 0 (spot_in ys q)) e
-spot-right (c ∷ xs) ys p h =
+spot_right (c ∷ xs) ys p h =
     let long = length-append c (joined xs) in
     let s = spot_in ys (p - length c - length (joined xs)) in
     let e : p - length c - length (joined xs) ≡ p - length (c ++ joined xs) = omega arith in
     let sum : 1 + (length xs + s.chunk) ≡ suc (length xs) + s.chunk = omega arith in
     let lift : shifted 1 (shifted (length xs) s) ≡ shifted (suc (length xs)) s = λ z. record { chunk = sum z; inside = s.inside; size = s.size } in
-    spot-later c (xs ++ ys) p (omega arith) ∙ ap (shifted 1) (spot-right xs ys (p - length c) (omega arith)) ∙ lift ∙ ap (λ q. shifted (suc (length xs)) (spot_in ys q)) e
+    spot_later c (xs ++ ys) p (omega arith) ∙ ap (shifted 1) (spot_right xs ys (p - length c) (omega arith)) ∙ lift ∙ ap (λ q. shifted (suc (length xs)) (spot_in ys q)) e
 
-pub spot-here : (c : List ℕ) (cs : List (List ℕ)) (p : ℕ) → p < length c → spot_in (c ∷ cs) p ≡ record { chunk = 0; inside = p; size = length c }
-spot-here = spot-first
+pub spot_here : (c : List ℕ) (cs : List (List ℕ)) (p : ℕ) → p < length c → spot_in (c ∷ cs) p ≡ record { chunk = 0; inside = p; size = length c }
+spot_here = spot_first
 
-pub spot-behind : (c : List ℕ) (cs : List (List ℕ)) (p : ℕ) → length c ≤ p → spot_in (c ∷ cs) p ≡ shifted 1 (spot_in cs (p - length c))
-spot-behind = spot-later
+pub spot_behind : (c : List ℕ) (cs : List (List ℕ)) (p : ℕ) → length c ≤ p → spot_in (c ∷ cs) p ≡ shifted 1 (spot_in cs (p - length c))
+spot_behind = spot_later
 
 -- The numbers from a on, k of them, each once.
-pub count-counting : (a k j : ℕ) → count (range_with_len a k) j + below a j ≡ below (a + k) j
-count-counting a zero j = grind (arith, nat_tests)
-count-counting a (suc k) j = let rest = count-counting (a + 1) k j in grind (arith, nat_tests)
+pub count_counting : (a k j : ℕ) → count (range_with_len a k) j + below a j ≡ below (a + k) j
+count_counting a zero j = grind (arith, nat_tests)
+count_counting a (suc k) j = let rest = count_counting (a + 1) k j in grind (arith, nat_tests)
 
 -- No more chunks lie before a place than there are.
-pub spot-few : (cs : List (List ℕ)) (p : ℕ) → (spot_in cs p).chunk ≤ length cs
-spot-few [] p = omega arith
-spot-few (c ∷ cs) p =
-    ⊎_elim (λ e. let at = ap (λ (s : Spot). s.chunk) (spot-first c cs p e) in omega arith)
-    (λ e. let at = ap (λ (s : Spot). s.chunk) (spot-later c cs p e) in omega (arith, spot-few cs (p - length c)))
+pub spot_few : (cs : List (List ℕ)) (p : ℕ) → (spot_in cs p).chunk ≤ length cs
+spot_few [] p = omega arith
+spot_few (c ∷ cs) p =
+    ⊎_elim (λ e. let at = ap (λ (s : Spot). s.chunk) (spot_first c cs p e) in omega arith)
+    (λ e. let at = ap (λ (s : Spot). s.chunk) (spot_later c cs p e) in omega (arith, spot_few cs (p - length c)))
     (cases_lt p (length c))

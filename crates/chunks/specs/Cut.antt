@@ -19,8 +19,8 @@ pieces f k zero bytes = []
 pieces f k (suc n) bytes = take (f k) bytes ∷ pieces f (suc k) n (drop (f k) bytes)
 
 -- The k-th of q chunks of some bytes, and the n chunks from the k-th on.
-abbrev pub chunk-at : List ℕ → ℕ → ℕ → List ℕ
-chunk-at bytes q k = let j = length bytes in take (share j q k) (drop (begin j q k) bytes)
+abbrev pub chunk_at : List ℕ → ℕ → ℕ → List ℕ
+chunk_at bytes q k = let j = length bytes in take (share j q k) (drop (begin j q k) bytes)
 
 abbrev pub part : List ℕ → ℕ → ℕ → ℕ → List (List ℕ)
 part bytes q k n = let j = length bytes in pieces (share j q) k n (drop (begin j q k) bytes)

@@ -22,8 +22,8 @@ height (node l i r) = suc (max (height l) (height r))
 
 -- The heights of two trees differ by at most one.
 pub record Level (l r : Tree) : Type 0 where
-  pub left-low : height l ≤ suc (height r)
-  pub right-low : height r ≤ suc (height l)
+  pub left_low : height l ≤ suc (height r)
+  pub right_low : height r ≤ suc (height l)
 
 -- A tree is balanced where the two sides of each slot are level.
 abbrev pub Balanced : Tree → Type 0
@@ -37,5 +37,5 @@ least (suc zero) = 1
 least (suc (suc h)) = suc (least (suc h) + least h)
 
 -- A balanced tree of up to 4,096 slots is at most 16 high: one of height 17 has 4,180 slots at least.
-abbrev pub Balanced-trees-are-low : Type 0
-Balanced-trees-are-low = (t : Tree) → Balanced t → length (slots t) ≤ 4096 → height t ≤ 16
+abbrev pub BalancedTreesAreLow : Type 0
+BalancedTreesAreLow = (t : Tree) → Balanced t → length (slots t) ≤ 4096 → height t ≤ 16

@@ -1,6 +1,6 @@
 // The laws of trees: each is what a function here ensures, so that its proof is asked for.
-ghost use Rattle.chunks.specs.Tree.{Balanced-trees-are-low};
+ghost use Rattle.chunks.specs.Tree.{BalancedTreesAreLow};
 
 pub fn balanced_trees_are_low()
-    ensures { Balanced-trees-are-low }
+    ensures { BalancedTreesAreLow }
 {}

@@ -3,31 +3,31 @@ use Rattle.std.proofs.Common.{◌≡◌, ℕ, suc, ◌+◌, ◌<◌, ◌≤◌, 
 use Rattle.std.proofs.lemmas.List.{length-append, take_more, take_more_set, reverse-append, map-append, drop-set-lt}
 use Rattle.automaton.specs.Automaton.{Automaton}
 use Rattle.chunks.specs.Tree.{Tree, leaf, node, slots}
-use Rattle.chunks.proofs.Footprint.{few-below}
+use Rattle.chunks.proofs.Footprint.{few_below}
 use Rattle.measure.specs.Measure.{Measure}
 use Rattle.slots.specs.Claim.{kept}
 use Rattle.slots.specs.Holds.{Holds}
 use Rattle.slots.specs.Sound.{tree_of}
-use Rattle.slots.proofs.Reading.{whole-sound}
+use Rattle.slots.proofs.Reading.{whole_sound}
 use Rattle.tree.specs.declared.chunk_tree.ChunkTree.{ChunkTree}
-use Rattle.tree.specs.Public.{usable-of, Kept-by}
+use Rattle.tree.specs.Public.{usable_of, KeptBy}
 use Rattle.document.specs.declared.call.Call.{Call}
 use Rattle.document.specs.declared.call.Answer.{Answer}
 use Rattle.document.specs.Content.{model_of, Keeps}
 use Rattle.document.specs.Log.{Snapshot, Entry, New, latest, Follows, Replayed}
-use Rattle.document.proofs.Law.{new-pending, stands-so}
+use Rattle.document.proofs.Law.{new_pending, stands_so}
 
-no-slots : (t : Tree) → length (slots t) ≡ 0 → t ≡ leaf
-no-slots leaf e = refl
-no-slots (node l i r) e = absurd (omega (arith, length-append (slots l) (i ∷ slots r)))
+no_slots : (t : Tree) → length (slots t) ≡ 0 → t ≡ leaf
+no_slots leaf e = refl
+no_slots (node l i r) e = absurd (omega (arith, length-append (slots l) (i ∷ slots r)))
 
 -- Where no slot is usable, none keeps a reading.
-pub kept-none : {R : Type 0} (T : ChunkTree R) → usable-of T ≡ 0 → (μ : Measure R) → Kept-by T μ
-kept-none T none μ =
+pub kept_none : {R : Type 0} (T : ChunkTree R) → usable_of T ≡ 0 → (μ : Measure R) → KeptBy T μ
+kept_none T none μ =
     let m = T.memory in
     let t = tree_of m T.root in
-    let whole = whole-sound m T.root T.sound in
-    let bare = no-slots t (omega (arith, few-below m.usable (slots t) (λ j. omega (arith, whole.all j)))) in
+    let whole = whole_sound m T.root T.sound in
+    let bare = no_slots t (omega (arith, few_below m.usable (slots t) (λ j. omega (arith, whole.all j)))) in
     subst (Holds (kept μ) m) (sym bare) tt
 
 module _ {R : Type 0} (a : Automaton) (μ : Measure R) where
@@ -36,25 +36,25 @@ module _ {R : Type 0} (a : Automaton) (μ : Measure R) where
     pub log : List (Entry R)
     pub follows : Follows a μ first log
     pub calls_are : map (λ e. e.call) (reverse log) ≡ calls
-    pub answers-are : map (λ e. e.answer) (reverse log) ≡ answers
-    pub screen-before : first.screen ≡ screen
-    pub buffer-before : first.buffer ≡ buffer
-    pub comes-to : latest first log ≡ here
+    pub answers_are : map (λ e. e.answer) (reverse log) ≡ answers
+    pub screen_before : first.screen ≡ screen
+    pub buffer_before : first.buffer ≡ buffer
+    pub comes_to : latest first log ≡ here
 
   pub begins : (s : Snapshot R) → New s → Going s.screen s.buffer [] [] s
   begins s new = record {
     first = s;
     log = [];
-    follows = (new, stands-so a μ s (new-pending a s new) (kept-none s.document.tree.now new.not_opened μ));
+    follows = (new, stands_so a μ s (new_pending a s new) (kept_none s.document.tree.now new.not_opened μ));
     calls_are = refl;
-    answers-are = refl;
-    screen-before = refl;
-    buffer-before = refl;
-    comes-to = refl;
+    answers_are = refl;
+    screen_before = refl;
+    buffer_before = refl;
+    comes_to = refl;
   }
 
-  mapped-more : {Y : Type 0} (f : Entry R → Y) (e : Entry R) (log : List (Entry R)) → map f (reverse (e ∷ log)) ≡ map f (reverse log) ++ (f e ∷ [])
-  mapped-more f e log = ap (map f) (reverse-append (e ∷ []) log) ∙ map-append f (reverse log) (e ∷ [])
+  mapped_more : {Y : Type 0} (f : Entry R → Y) (e : Entry R) (log : List (Entry R)) → map f (reverse (e ∷ log)) ≡ map f (reverse log) ++ (f e ∷ [])
+  mapped_more f e log = ap (map f) (reverse-append (e ∷ []) log) ∙ map-append f (reverse log) (e ∷ [])
 
   pub goes_on : (screen buffer : List ℕ) (calls : List Call) (answers : List Answer) (here : Snapshot R) (e : Entry R) → Going screen buffer calls answers here →
       ((first : Snapshot R) (log : List (Entry R)) → Follows a μ first log → latest first log ≡ here → Follows a μ first (e ∷ log)) →
@@ -62,12 +62,12 @@ module _ {R : Type 0} (a : Automaton) (μ : Measure R) where
   goes_on screen buffer calls answers here e g step calls' more answers' told = record {
     first = g.first;
     log = e ∷ g.log;
-    follows = step g.first g.log g.follows g.comes-to;
-    calls_are = mapped-more (λ x. x.call) e g.log ∙ ap (λ l. l ++ (e.call ∷ [])) g.calls_are ∙ sym more;
-    answers-are = mapped-more (λ x. x.answer) e g.log ∙ ap (λ l. l ++ (e.answer ∷ [])) g.answers-are ∙ sym told;
-    screen-before = g.screen-before;
-    buffer-before = g.buffer-before;
-    comes-to = refl;
+    follows = step g.first g.log g.follows g.comes_to;
+    calls_are = mapped_more (λ x. x.call) e g.log ∙ ap (λ l. l ++ (e.call ∷ [])) g.calls_are ∙ sym more;
+    answers_are = mapped_more (λ x. x.answer) e g.log ∙ ap (λ l. l ++ (e.answer ∷ [])) g.answers_are ∙ sym told;
+    screen_before = g.screen_before;
+    buffer_before = g.buffer_before;
+    comes_to = refl;
   }
 
   pub replayed : (screen buffer : List ℕ) (calls : List Call) (answers : List Answer) (here : Snapshot R) → Going screen buffer calls answers here → Replayed a μ screen buffer calls answers here.screen here.buffer
@@ -76,9 +76,9 @@ module _ {R : Type 0} (a : Automaton) (μ : Measure R) where
     log = g.log;
     follows = g.follows;
     calls_are = g.calls_are;
-    answers-are = g.answers-are;
-    screen-before = g.screen-before;
-    buffer-before = g.buffer-before;
-    screen-behind = ap (λ (s : Snapshot R). s.screen) g.comes-to;
-    buffer-behind = ap (λ (s : Snapshot R). s.buffer) g.comes-to;
+    answers_are = g.answers_are;
+    screen_before = g.screen_before;
+    buffer_before = g.buffer_before;
+    screen_behind = ap (λ (s : Snapshot R). s.screen) g.comes_to;
+    buffer_behind = ap (λ (s : Snapshot R). s.buffer) g.comes_to;
   }

@@ -4,7 +4,7 @@ use Rattle.automaton.specs.Automaton.{Automaton}
 use Rattle.measure.specs.Measure.{Measure}
 use Rattle.chunks.specs.Tree.{height}
 use Rattle.model.specs.Model.{Model}
-use Rattle.tree.specs.Public.{tree-in, chunks-now, Kept-by}
+use Rattle.tree.specs.Public.{tree_in, chunks_now, KeptBy}
 use Rattle.editing.specs.Content.{text_in, model_in}
 use Rattle.document.specs.declared.document.Document.{Document}
 
@@ -17,11 +17,11 @@ module _ {R : Type 0} (d : Document R) where
 
   -- Each slot keeps the meter's reading of exactly the bytes under it.
   abbrev pub Keeps : Measure R → Type 0
-  Keeps μ = Kept-by d.tree.now μ
+  Keeps μ = KeptBy d.tree.now μ
 
   -- Bytes, chunks and height. The height is that of the tree which memory holds.
   abbrev pub size_of : ℕ × ℕ × ℕ
-  size_of = (length text, length (chunks-now d.tree.now), height (tree-in d.tree.now))
+  size_of = (length text, length (chunks_now d.tree.now), height (tree_in d.tree.now))
 
 -- Nothing of a document changed: not a byte of the memory that its tree has, nor the due.
 abbrev pub Unchanged : {R : Type 0} → Document R → Document R → Type 0

@@ -7,12 +7,12 @@ use Rattle.chunks.specs.Tree.{Balanced, height}
 use Rattle.measure.specs.Measure.{Measure}
 use Rattle.model.specs.declared.change.Change.{Change}
 use Rattle.model.specs.declared.refusal.Refusal.{Refusal}
-use Rattle.model.specs.Calls.{open-refusal, opened, edit-refusal, edited, paint-refusal, settled, close-refusal, range-refusal, with-front}
-use Rattle.model.specs.End.{edit-change, Ends-first}
-use Rattle.model.specs.Laws.{Shows-text}
+use Rattle.model.specs.Calls.{open_refusal, opened, edit_refusal, edited, paint_refusal, settled, close_refusal, range_refusal, with_front}
+use Rattle.model.specs.End.{edit_change, EndsFirst}
+use Rattle.model.specs.Laws.{ShowsText}
 use Rattle.model.specs.Model.{Model}
 use Rattle.model.specs.Paint.{painted}
-use Rattle.tree.specs.Public.{tree-in}
+use Rattle.tree.specs.Public.{tree_in}
 use Rattle.document.specs.declared.document.Document.{Document}
 use Rattle.document.specs.declared.call.Call.{Call}
 use Rattle.document.specs.declared.call.Call.TheVariants as call
@@ -34,51 +34,51 @@ pub record Entry (R : Type 0) : Type 0 where
 
 module _ {R : Type 0} (a : Automaton) (s : Snapshot R) where
   -- The first reason to refuse a call, if there is one.
-  abbrev pub refusal-of : Call → Option Refusal
-  refusal-of call.Size = None
-  refusal-of (call.Open states) = open-refusal (model_of s.document) states
-  refusal-of (call.Edit from to bytes) = edit-refusal (model_of s.document) from to bytes.now
-  refusal-of (call.Paint change) = paint-refusal (model_of s.document) change (length s.screen)
-  refusal-of call.Close = close-refusal (model_of s.document)
-  refusal-of (call.Text from to room) = range-refusal (model_of s.document) from to (min room (length s.buffer))
-  refusal-of (call.Colours from to room) = range-refusal (model_of s.document) from to (min room (length s.buffer))
+  abbrev pub refusal_of : Call → Option Refusal
+  refusal_of call.Size = None
+  refusal_of (call.Open states) = open_refusal (model_of s.document) states
+  refusal_of (call.Edit from to bytes) = edit_refusal (model_of s.document) from to bytes.now
+  refusal_of (call.Paint change) = paint_refusal (model_of s.document) change (length s.screen)
+  refusal_of call.Close = close_refusal (model_of s.document)
+  refusal_of (call.Text from to room) = range_refusal (model_of s.document) from to (min room (length s.buffer))
+  refusal_of (call.Colours from to room) = range_refusal (model_of s.document) from to (min room (length s.buffer))
 
   -- What a call answers and leaves where it is not refused.
-  abbrev pub answer-done : Call → Answer
-  answer-done call.Size = let size = size_of s.document in answer.Size size.0 size.1 size.2
-  answer-done (call.Open states) = answer.Pass
-  answer-done (call.Edit from to bytes) = answer.Due (edit-change a (text s.document) from to bytes.now)
-  answer-done (call.Paint change) = answer.Pass
-  answer-done call.Close = answer.Closed
-  answer-done (call.Text from to room) = answer.Written
-  answer-done (call.Colours from to room) = answer.Written
+  abbrev pub answer_done : Call → Answer
+  answer_done call.Size = let size = size_of s.document in answer.Size size.0 size.1 size.2
+  answer_done (call.Open states) = answer.Pass
+  answer_done (call.Edit from to bytes) = answer.Due (edit_change a (text s.document) from to bytes.now)
+  answer_done (call.Paint change) = answer.Pass
+  answer_done call.Close = answer.Closed
+  answer_done (call.Text from to room) = answer.Written
+  answer_done (call.Colours from to room) = answer.Written
 
-  abbrev pub model-done : Call → Model
-  model-done call.Size = model_of s.document
-  model-done (call.Open states) = opened (model_of s.document)
-  model-done (call.Edit from to bytes) = edited (model_of s.document) from to bytes.now (edit-change a (text s.document) from to bytes.now)
-  model-done (call.Paint change) = settled (model_of s.document)
-  model-done call.Close = model_of s.document
-  model-done (call.Text from to room) = model_of s.document
-  model-done (call.Colours from to room) = model_of s.document
+  abbrev pub model_done : Call → Model
+  model_done call.Size = model_of s.document
+  model_done (call.Open states) = opened (model_of s.document)
+  model_done (call.Edit from to bytes) = edited (model_of s.document) from to bytes.now (edit_change a (text s.document) from to bytes.now)
+  model_done (call.Paint change) = settled (model_of s.document)
+  model_done call.Close = model_of s.document
+  model_done (call.Text from to room) = model_of s.document
+  model_done (call.Colours from to room) = model_of s.document
 
-  abbrev pub screen-done : Call → List ℕ
-  screen-done call.Size = s.screen
-  screen-done (call.Open states) = s.screen
-  screen-done (call.Edit from to bytes) = s.screen
-  screen-done (call.Paint change) = painted a (text s.document) change s.screen
-  screen-done call.Close = s.screen
-  screen-done (call.Text from to room) = s.screen
-  screen-done (call.Colours from to room) = s.screen
+  abbrev pub screen_done : Call → List ℕ
+  screen_done call.Size = s.screen
+  screen_done (call.Open states) = s.screen
+  screen_done (call.Edit from to bytes) = s.screen
+  screen_done (call.Paint change) = painted a (text s.document) change s.screen
+  screen_done call.Close = s.screen
+  screen_done (call.Text from to room) = s.screen
+  screen_done (call.Colours from to room) = s.screen
 
-  abbrev pub buffer-done : Call → List ℕ
-  buffer-done call.Size = s.buffer
-  buffer-done (call.Open states) = s.buffer
-  buffer-done (call.Edit from to bytes) = s.buffer
-  buffer-done (call.Paint change) = s.buffer
-  buffer-done call.Close = s.buffer
-  buffer-done (call.Text from to room) = with-front (between from to (text s.document)) s.buffer
-  buffer-done (call.Colours from to room) = with-front (between from to (colours a (text s.document))) s.buffer
+  abbrev pub buffer_done : Call → List ℕ
+  buffer_done call.Size = s.buffer
+  buffer_done (call.Open states) = s.buffer
+  buffer_done (call.Edit from to bytes) = s.buffer
+  buffer_done (call.Paint change) = s.buffer
+  buffer_done call.Close = s.buffer
+  buffer_done (call.Text from to room) = with_front (between from to (text s.document)) s.buffer
+  buffer_done (call.Colours from to room) = with_front (between from to (colours a (text s.document))) s.buffer
 
 -- A refusal stands in the place of an answer, and leaves what was there before.
 abbrev pub replied : Option Refusal → Answer → Answer
@@ -91,24 +91,24 @@ left_by (Some refusal) before done = before
 
 -- A call did as the rules say.
 pub record Obeys {R : Type 0} (a : Automaton) (before : Snapshot R) (e : Entry R) : Type 0 where
-  pub answer-is : e.answer ≡ replied (refusal-of a before e.call) (answer-done a before e.call)
-  pub model_is : model_of e.after.document ≡ left_by (refusal-of a before e.call) (model_of before.document) (model-done a before e.call)
-  pub screen-is : e.after.screen ≡ left_by (refusal-of a before e.call) before.screen (screen-done a before e.call)
-  pub buffer-is : e.after.buffer ≡ left_by (refusal-of a before e.call) before.buffer (buffer-done a before e.call)
+  pub answer_is : e.answer ≡ replied (refusal_of a before e.call) (answer_done a before e.call)
+  pub model_is : model_of e.after.document ≡ left_by (refusal_of a before e.call) (model_of before.document) (model_done a before e.call)
+  pub screen_is : e.after.screen ≡ left_by (refusal_of a before e.call) before.screen (screen_done a before e.call)
+  pub buffer_is : e.after.buffer ≡ left_by (refusal_of a before e.call) before.buffer (buffer_done a before e.call)
   -- where it was refused, not a byte of the lent memory changed
-  pub refused-same : (refusal : Refusal) → refusal-of a before e.call ≡ Some refusal → Unchanged before.document e.after.document
+  pub refused_same : (refusal : Refusal) → refusal_of a before e.call ≡ Some refusal → Unchanged before.document e.after.document
 
 -- A due that was answered names as its end the first place behind the new bytes where the old and the new walk share a state,
 -- else the end of the new text.
-abbrev pub Names-its-end : {R : Type 0} → Automaton → Snapshot R → Entry R → Type 0
-Names-its-end a before e = (c : Change) → e.answer ≡ answer.Due c → Ends-first a (text before.document) (text e.after.document) c
+abbrev pub NamesItsEnd : {R : Type 0} → Automaton → Snapshot R → Entry R → Type 0
+NamesItsEnd a before e = (c : Change) → e.answer ≡ answer.Due c → EndsFirst a (text before.document) (text e.after.document) c
 
 -- What is true of a document and its screen behind every call.
 pub record Stands {R : Type 0} (a : Automaton) (μ : Measure R) (s : Snapshot R) : Type 0 where
-  pub screen-shows-text : (model_of s.document).due ≡ None → Shows-text a (text s.document) s.screen
-  pub slots-keep-readings : Keeps s.document μ
-  pub tree-is-balanced : Balanced (tree-in s.document.tree.now)
-  pub tree-is-low : height (tree-in s.document.tree.now) ≤ 16
+  pub screen_shows_text : (model_of s.document).due ≡ None → ShowsText a (text s.document) s.screen
+  pub slots_keep_readings : Keeps s.document μ
+  pub tree_is_balanced : Balanced (tree_in s.document.tree.now)
+  pub tree_is_low : height (tree_in s.document.tree.now) ≤ 16
 
 -- A new document: no slot is usable, and no due stands.
 pub record New {R : Type 0} (s : Snapshot R) : Type 0 where
@@ -124,7 +124,7 @@ latest first (e ∷ log) = e.after
 -- document and its screen stand as promised.
 abbrev pub Follows : {R : Type 0} → Automaton → Measure R → Snapshot R → List (Entry R) → Type 0
 Follows a μ first [] = New first × Stands a μ first
-Follows a μ first (e ∷ log) = Follows a μ first log × (Obeys a (latest first log) e × (Names-its-end a (latest first log) e × Stands a μ e.after))
+Follows a μ first (e ∷ log) = Follows a μ first log × (Obeys a (latest first log) e × (NamesItsEnd a (latest first log) e × Stands a μ e.after))
 
 -- A log of a new document with the given calls, in order, and their answers, from one screen and buffer to another.
 pub record Replayed {R : Type 0} (a : Automaton) (μ : Measure R) (screen buffer : List ℕ) (calls : List Call) (answers : List Answer) (screen-after buffer-after : List ℕ) : Type 0 where
@@ -132,8 +132,8 @@ pub record Replayed {R : Type 0} (a : Automaton) (μ : Measure R) (screen buffer
   pub log : List (Entry R)
   pub follows : Follows a μ first log
   pub calls_are : map (λ e. e.call) (reverse log) ≡ calls
-  pub answers-are : map (λ e. e.answer) (reverse log) ≡ answers
-  pub screen-before : first.screen ≡ screen
-  pub buffer-before : first.buffer ≡ buffer
-  pub screen-behind : (latest first log).screen ≡ screen-after
-  pub buffer-behind : (latest first log).buffer ≡ buffer-after
+  pub answers_are : map (λ e. e.answer) (reverse log) ≡ answers
+  pub screen_before : first.screen ≡ screen
+  pub buffer_before : first.buffer ≡ buffer
+  pub screen_behind : (latest first log).screen ≡ screen-after
+  pub buffer_behind : (latest first log).buffer ≡ buffer-after

@@ -1,6 +1,6 @@
 // A document: the tree of its text's chunks, and the change that waits to be painted.
 ghost use Rattle.std.specs.Prelude.{◌≡◌, true, length};
-ghost use Rattle.model.specs.Calls.{due-fits};
+ghost use Rattle.model.specs.Calls.{due_fits};
 ghost use Rattle.editing.specs.Content.{text_in};
 
 use model::Change;
@@ -14,5 +14,5 @@ pub mod untyped;
 pub struct Document<'t, 'a, R> {
     tree: &'t mut ChunkTree<'a, R>,
     due: Option<Change>,
-    ghost fitting: { due-fits due (length (text_in tree.now)) ≡ true },
+    ghost fitting: { due_fits due (length (text_in tree.now)) ≡ true },
 }

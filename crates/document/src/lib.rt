@@ -1,4 +1,7 @@
 // The document: its calls, with a pass and a due as values that have to be handed on, and the law over logs of calls.
+
+#![tactic(auto)]
+
 pub mod call;
 pub mod document;
 pub mod replaying;

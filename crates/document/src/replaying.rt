@@ -1,6 +1,6 @@
 // A whole log at once: a new document over lent memory, and calls carried out on it one after another.
 ghost use Rattle.std.specs.Prelude.{◌≡◌, ℕ, min, List, length, take, drop};
-ghost use Rattle.editing.specs.Content.{document-measure};
+ghost use Rattle.editing.specs.Content.{document_measure};
 ghost use Rattle.document.specs.Log.{Replayed};
 
 use crate::call::{Answer, Call};
@@ -26,7 +26,7 @@ pub fn replay<X: Copy, G: Grammar, H: Meter<Reading = X>>(
 ) -> usize
     ensures count { result ≡ min (length calls.now) (length answers.old) }
     ensures rest { drop result answers.new ≡ drop result answers.old }
-    ensures law { Replayed (G.Grammar.meaning meter.now.first.grammar) (document-measure (G.Grammar.meaning meter.now.first.grammar) (H.Meter.scale meter.now.second.second)) screen.old buffer.old (take result calls.now) (take result answers.new) screen.new buffer.new }
+    ensures law { Replayed (G.Grammar.meaning meter.now.first.grammar) (document_measure (G.Grammar.meaning meter.now.first.grammar) (H.Meter.scale meter.now.second.second)) screen.old buffer.old (take result calls.now) (take result answers.new) screen.new buffer.new }
 {
     let mut tree = ChunkTree::new(slots, store, readings);
     let mut document = Document::new(&mut tree);

@@ -2,9 +2,9 @@
 use Rattle.std.specs.Prelude.{ℕ, List, Option}
 use Rattle.automaton.specs.Automaton.{Automaton}
 use Rattle.measure.specs.Measure.{Measure}
-use Rattle.measure.specs.Pair.{pair-measure}
-use Rattle.measure.specs.Place.{place-measure}
-use Rattle.measure.specs.Walk.{walk-measure}
+use Rattle.measure.specs.Pair.{pair_measure}
+use Rattle.measure.specs.Place.{place_measure}
+use Rattle.measure.specs.Walk.{walk_measure}
 use Rattle.measure.specs.declared.bounded_reading.Bounded.{Bounded}
 use Rattle.measure.specs.declared.pair_reading.PairReading.{PairReading}
 use Rattle.measure.specs.declared.place_reading.Extent.{Extent}
@@ -13,22 +13,22 @@ use Rattle.chunks.specs.Cut.{joined}
 use Rattle.model.specs.declared.change.Change.{Change}
 use Rattle.model.specs.Model.{Model}
 use Rattle.tree.specs.declared.chunk_tree.ChunkTree.{ChunkTree}
-use Rattle.tree.specs.Public.{chunks-now, usable-of, lent-to}
+use Rattle.tree.specs.Public.{chunks_now, usable_of, lent_to}
 
 -- The document's meter: walks by its grammar, places, and whatever the host measures.
-abbrev pub document-measure : {X : Type 0} → Automaton → Measure X → Measure (PairReading (Bounded Passage) (PairReading (Bounded Extent) X))
-document-measure a host = pair-measure (walk-measure a) (pair-measure place-measure host)
+abbrev pub document_measure : {X : Type 0} → Automaton → Measure X → Measure (PairReading (Bounded Passage) (PairReading (Bounded Extent) X))
+document_measure a host = pair_measure (walk_measure a) (pair_measure place_measure host)
 
 abbrev pub text_in : {R : Type 0} → ChunkTree R → List ℕ
-text_in T = joined (chunks-now T)
+text_in T = joined (chunks_now T)
 
 -- The document whose tree it is, with the due that stands.
 abbrev pub model_in : {R : Type 0} → ChunkTree R → Option Change → Model
 model_in T due = record {
-  slots = (lent-to T).slots;
-  store = (lent-to T).store;
-  readings = (lent-to T).readings;
-  usable = usable-of T;
-  chunks = chunks-now T;
+  slots = (lent_to T).slots;
+  store = (lent_to T).store;
+  readings = (lent_to T).readings;
+  usable = usable_of T;
+  chunks = chunks_now T;
   due = due;
 }

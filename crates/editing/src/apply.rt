@@ -1,11 +1,11 @@
 // An edit carried out on the tree.
 ghost use Rattle.std.specs.Prelude.{◌≡◌, ℕ, ◌+◌, ◌-◌, ◌<◌, ◌≤◌, length, take, IfOk, None, OnErr};
-ghost use Rattle.model.specs.Edit.{middle as middle_of, middle-length, affected, edited-chunks};
-ghost use Rattle.tree.specs.Public.{chunks-now, usable-of, lent-to, Kept-by};
-ghost use Rattle.editing.specs.Content.{text_in, model_in, document-measure};
+ghost use Rattle.model.specs.Edit.{middle as middle_of, middle_length, affected, edited_chunks};
+ghost use Rattle.tree.specs.Public.{chunks_now, usable_of, lent_to, KeptBy};
+ghost use Rattle.editing.specs.Content.{text_in, model_in, document_measure};
 ghost use Rattle.editing.specs.Applied.{Applied};
-ghost use Rattle.model.specs.Calls.{change-refusal, refusal-in};
-ghost use Rattle.model.specs.End.{edit-change};
+ghost use Rattle.model.specs.Calls.{change_refusal, refusal_in};
+ghost use Rattle.model.specs.End.{edit_change};
 
 use crate::plan::plan;
 use crate::readings::Readings;
@@ -33,8 +33,8 @@ fn fill_middle<R: Copy>(
     requires forward { from ≤ to }
     requires behind { to ≤ run.end }
     requires within { run.end ≤ length (text_in tree.now) }
-    requires room { middle-length run from to (length bytes.now) ≤ length out.old }
-    ensures long { result ≡ middle-length run from to (length bytes.now) }
+    requires room { middle_length run from to (length bytes.now) ≤ length out.old }
+    ensures long { result ≡ middle_length run from to (length bytes.now) }
     ensures is { take result out.new ≡ middle_of (text_in tree.now) run from to bytes.now }
 {
     let head = (from - run.start) as usize;
@@ -54,13 +54,13 @@ fn replace_run<R: Copy, M: Meter<Reading = R>>(
     to: u32,
     bytes: &[u8],
 )
-    requires allowed { change-refusal (model_in tree.old None) from to bytes.now ≡ None }
-    requires is { run ≡ affected (chunks-now tree.old) from to (length bytes.now) }
-    requires short { middle-length run from to (length bytes.now) ≤ 1152 }
-    ensures chunks { chunks-now tree.new ≡ edited-chunks (chunks-now tree.old) from to bytes.now }
-    ensures usable { usable-of tree.new ≡ usable-of tree.old }
-    ensures lent { lent-to tree.new ≡ lent-to tree.old }
-    ensures keeps { Kept-by tree.old (M.Meter.scale meter.now) → Kept-by tree.new (M.Meter.scale meter.now) }
+    requires allowed { change_refusal (model_in tree.old None) from to bytes.now ≡ None }
+    requires is { run ≡ affected (chunks_now tree.old) from to (length bytes.now) }
+    requires short { middle_length run from to (length bytes.now) ≤ 1152 }
+    ensures chunks { chunks_now tree.new ≡ edited_chunks (chunks_now tree.old) from to bytes.now }
+    ensures usable { usable_of tree.new ≡ usable_of tree.old }
+    ensures lent { lent_to tree.new ≡ lent_to tree.old }
+    ensures keeps { KeptBy tree.old (M.Meter.scale meter.now) → KeptBy tree.new (M.Meter.scale meter.now) }
 {
     let mut middle = [0; MOST_MIDDLE];
     let length = fill_middle(tree, run, from, to, bytes, &mut middle);
@@ -75,10 +75,10 @@ pub fn apply_edit<X: Copy, G: Grammar, H: Meter<Reading = X>>(
     to: u32,
     bytes: &[u8],
 ) -> Result<Change, Refusal>
-    ensures decides { refusal-in result ≡ change-refusal (model_in tree.old None) from to bytes.now }
+    ensures decides { refusal_in result ≡ change_refusal (model_in tree.old None) from to bytes.now }
     ensures applied { IfOk result (λ c. Applied tree.old from to bytes.now tree.new c) }
-    ensures ends { IfOk result (λ c. Kept-by tree.old (document-measure (G.Grammar.meaning meter.now.first.grammar) (H.Meter.scale meter.now.second.second)) → c ≡ edit-change (G.Grammar.meaning meter.now.first.grammar) (text_in tree.old) from to bytes.now) }
-    ensures keeps { Kept-by tree.old (document-measure (G.Grammar.meaning meter.now.first.grammar) (H.Meter.scale meter.now.second.second)) → Kept-by tree.new (document-measure (G.Grammar.meaning meter.now.first.grammar) (H.Meter.scale meter.now.second.second)) }
+    ensures ends { IfOk result (λ c. KeptBy tree.old (document_measure (G.Grammar.meaning meter.now.first.grammar) (H.Meter.scale meter.now.second.second)) → c ≡ edit_change (G.Grammar.meaning meter.now.first.grammar) (text_in tree.old) from to bytes.now) }
+    ensures keeps { KeptBy tree.old (document_measure (G.Grammar.meaning meter.now.first.grammar) (H.Meter.scale meter.now.second.second)) → KeptBy tree.new (document_measure (G.Grammar.meaning meter.now.first.grammar) (H.Meter.scale meter.now.second.second)) }
     ensures same { OnErr result (tree.new ≡ tree.old) }
 {
     let run = plan(tree, from, to, bytes)?;

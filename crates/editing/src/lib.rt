@@ -1,4 +1,7 @@
 // What the calls of a document do to its tree of chunks, to a screen and to a buffer. Nothing here knows a due or a pass.
+
+#![tactic(auto)]
+
 pub mod apply;
 pub mod plan;
 pub mod readings;

@@ -1,9 +1,9 @@
 // Which chunks an edit replaces, and whether it can be done.
 ghost use Rattle.std.specs.Prelude.{◌≡◌, ℕ, ◌+◌, ◌-◌, ◌^◌, ◌<◌, ◌≤◌, List, length, IfOk, None, OnOk};
 ghost use Rattle.chunks.specs.Spot.{spot_in};
-ghost use Rattle.model.specs.Edit.{run_of, touched as touched-by, middle-length, with-neighbour as neighbour-taken, affected as affected-by};
-ghost use Rattle.model.specs.Calls.{answered, change-refusal};
-ghost use Rattle.tree.specs.Public.{chunks-now};
+ghost use Rattle.model.specs.Edit.{run_of, touched as touched_by, middle_length, with_neighbour as neighbour_taken, affected as affected_by};
+ghost use Rattle.model.specs.Calls.{answered, change_refusal};
+ghost use Rattle.tree.specs.Public.{chunks_now};
 ghost use Rattle.editing.specs.Content.{text_in, model_in};
 
 use model::{Refusal, Run};
@@ -20,7 +20,7 @@ fn run_between<R: Copy>(tree: &ChunkTree<R>, low: u32, high: u32) -> Run
     requires ordered { low ≤ high }
     requires within { high < length (text_in tree.now) }
     requires short { length (text_in tree.now) < 2 ^ 32 }
-    ensures { result ≡ run_of (chunks-now tree.now) (spot_in (chunks-now tree.now) low).chunk ((spot_in (chunks-now tree.now) high).chunk + 1) }
+    ensures { result ≡ run_of (chunks_now tree.now) (spot_in (chunks_now tree.now) low).chunk ((spot_in (chunks_now tree.now) high).chunk + 1) }
 {
     let first = tree.spot(low);
     let last = tree.spot(high);
@@ -36,7 +36,7 @@ fn run_between<R: Copy>(tree: &ChunkTree<R>, low: u32, high: u32) -> Run
 fn touched<R: Copy>(tree: &ChunkTree<R>, from: u32, to: u32) -> Run
     requires forward { from ≤ to }
     requires inside { to ≤ length (text_in tree.now) }
-    ensures { result ≡ touched-by (chunks-now tree.now) from to }
+    ensures { result ≡ touched_by (chunks_now tree.now) from to }
 {
     if tree.bytes() == 0 {
         return Run {
@@ -55,11 +55,11 @@ fn touched<R: Copy>(tree: &ChunkTree<R>, from: u32, to: u32) -> Run
 
 // A run with the chunk on its right, else with that on its left, if there is one.
 fn with_neighbour<R: Copy>(tree: &ChunkTree<R>, run: Run) -> Run
-    requires is { run ≡ run_of (chunks-now tree.now) run.first run.last }
+    requires is { run ≡ run_of (chunks_now tree.now) run.first run.last }
     requires ordered { run.first ≤ run.last }
-    requires known { run.last ≤ length (chunks-now tree.now) }
+    requires known { run.last ≤ length (chunks_now tree.now) }
     requires short { length (text_in tree.now) < 2 ^ 32 }
-    ensures { result ≡ neighbour-taken (chunks-now tree.now) run }
+    ensures { result ≡ neighbour_taken (chunks_now tree.now) run }
 {
     if run.last < tree.chunks() {
         let next = tree.spot(run.end);
@@ -85,7 +85,7 @@ fn middle_length_of(run: Run, from: u32, to: u32, count: usize) -> usize
     requires before { run.start ≤ from }
     requires behind { to ≤ run.end }
     requires few { count ≤ 1024 }
-    ensures { result ≡ middle-length run from to count }
+    ensures { result ≡ middle_length run from to count }
 {
     (from - run.start) as usize + (count + (run.end - to) as usize)
 }
@@ -96,7 +96,7 @@ fn affected<R: Copy>(tree: &ChunkTree<R>, from: u32, to: u32, count: usize) -> R
     requires inside { to ≤ length (text_in tree.now) }
     requires short { length (text_in tree.now) < 2 ^ 32 }
     requires few { count ≤ 1024 }
-    ensures { result ≡ affected-by (chunks-now tree.now) from to count }
+    ensures { result ≡ affected_by (chunks_now tree.now) from to count }
 {
     let run = touched(tree, from, to);
     let bytes = middle_length_of(run, from, to, count);
@@ -109,8 +109,8 @@ fn affected<R: Copy>(tree: &ChunkTree<R>, from: u32, to: u32, count: usize) -> R
 
 // The chunks that an edit replaces, or why the tree refuses it.
 pub fn plan<R: Copy>(tree: &ChunkTree<R>, from: u32, to: u32, bytes: &[u8]) -> Result<Run, Refusal>
-    ensures is { result ≡ answered (change-refusal (model_in tree.now None) from to bytes.now) (affected-by (chunks-now tree.now) from to (length bytes.now)) }
-    ensures short { IfOk result (λ run. middle-length run from to (length bytes.now) ≤ 1152) }
+    ensures is { result ≡ answered (change_refusal (model_in tree.now None) from to bytes.now) (affected_by (chunks_now tree.now) from to (length bytes.now)) }
+    ensures short { IfOk result (λ run. middle_length run from to (length bytes.now) ≤ 1152) }
     ensures few { OnOk result (length (text_in tree.now) ≤ 262144) }
 {
     if from > to || to > tree.bytes() {

@@ -2,10 +2,10 @@
 ghost use Rattle.std.specs.Prelude.{◌≡◌, ◌+◌, ◌-◌, ◌≤◌, length, is_ok, if◌then◌else◌, None, OnErr, OnOk};
 ghost use Rattle.std.specs.List.{between};
 ghost use Rattle.automaton.specs.Walk.{colours};
-ghost use Rattle.model.specs.Calls.{answered, range-refusal as range-refused, fitting-refusal, fits as fits_in, with-front};
+ghost use Rattle.model.specs.Calls.{answered, range_refusal as range_refused, fitting_refusal, fits as fits_in, with_front};
 ghost use Rattle.model.specs.Paint.{painted};
-ghost use Rattle.tree.specs.Public.{Kept-by};
-ghost use Rattle.editing.specs.Content.{text_in, model_in, document-measure};
+ghost use Rattle.tree.specs.Public.{KeptBy};
+ghost use Rattle.editing.specs.Content.{text_in, model_in, document_measure};
 
 use crate::readings::Readings;
 use crate::states::state_before;
@@ -17,7 +17,7 @@ use walks::DocumentMeter;
 
 // Why a range cannot be copied into a buffer of so many cells, if it cannot.
 fn range_refusal<R: Copy>(tree: &ChunkTree<R>, from: u32, to: u32, cells: usize) -> Option<Refusal>
-    ensures { result ≡ range-refused (model_in tree.now None) from to cells }
+    ensures { result ≡ range_refused (model_in tree.now None) from to cells }
 {
     if from > to || to > tree.bytes() {
         return Some(Refusal::OutsideText(to as u64));
@@ -35,8 +35,8 @@ pub fn copy_text<R: Copy>(
     to: u32,
     out: &mut [u8],
 ) -> Result<(), Refusal>
-    ensures answer { result ≡ answered (range-refused (model_in tree.now None) from to (length out.old)) tt }
-    ensures written { out.new ≡ (if is_ok result then with-front (between from to (text_in tree.now)) out.old else out.old) }
+    ensures answer { result ≡ answered (range_refused (model_in tree.now None) from to (length out.old)) tt }
+    ensures written { out.new ≡ (if is_ok result then with_front (between from to (text_in tree.now)) out.old else out.old) }
 {
     if let Some(refusal) = range_refusal(tree, from, to, out.len()) {
         return Err(refusal);
@@ -53,8 +53,8 @@ pub fn copy_colours<X: Copy, G: Grammar, H: Meter<Reading = X>>(
     to: u32,
     out: &mut [u8],
 ) -> Result<(), Refusal>
-    ensures answer { result ≡ answered (range-refused (model_in tree.now None) from to (length out.old)) tt }
-    ensures written { OnOk result (Kept-by tree.now (document-measure (G.Grammar.meaning meter.now.first.grammar) (H.Meter.scale meter.now.second.second)) → out.new ≡ with-front (between from to (colours (G.Grammar.meaning meter.now.first.grammar) (text_in tree.now))) out.old) }
+    ensures answer { result ≡ answered (range_refused (model_in tree.now None) from to (length out.old)) tt }
+    ensures written { OnOk result (KeptBy tree.now (document_measure (G.Grammar.meaning meter.now.first.grammar) (H.Meter.scale meter.now.second.second)) → out.new ≡ with_front (between from to (colours (G.Grammar.meaning meter.now.first.grammar) (text_in tree.now))) out.old) }
     ensures same { OnErr result (out.new ≡ out.old) }
 {
     copy_text(tree, from, to, out)?;
@@ -81,8 +81,8 @@ pub fn paint_change<X: Copy, G: Grammar, H: Meter<Reading = X>>(
     change: Change,
     screen: &mut [u8],
 ) -> Result<(), Refusal>
-    ensures answer { result ≡ answered (fitting-refusal (model_in tree.now None) change (length screen.old)) tt }
-    ensures painted { OnOk result (Kept-by tree.now (document-measure (G.Grammar.meaning meter.now.first.grammar) (H.Meter.scale meter.now.second.second)) → screen.new ≡ painted (G.Grammar.meaning meter.now.first.grammar) (text_in tree.now) change screen.old) }
+    ensures answer { result ≡ answered (fitting_refusal (model_in tree.now None) change (length screen.old)) tt }
+    ensures painted { OnOk result (KeptBy tree.now (document_measure (G.Grammar.meaning meter.now.first.grammar) (H.Meter.scale meter.now.second.second)) → screen.new ≡ painted (G.Grammar.meaning meter.now.first.grammar) (text_in tree.now) change screen.old) }
     ensures same { OnErr result (screen.new ≡ screen.old) }
 {
     let bytes = tree.bytes();

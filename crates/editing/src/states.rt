@@ -1,9 +1,9 @@
 // The states of the text's walk, sought in the tree: before a place, and where two walks meet.
 ghost use Rattle.std.specs.Prelude.{◌≡◌, ◌≤◌, length, drop};
-ghost use Rattle.automaton.specs.Walk.{state-before};
+ghost use Rattle.automaton.specs.Walk.{state_before};
 ghost use Rattle.model.specs.End.{apart};
-ghost use Rattle.tree.specs.Public.{Kept-by};
-ghost use Rattle.editing.specs.Content.{text_in, document-measure};
+ghost use Rattle.tree.specs.Public.{KeptBy};
+ghost use Rattle.editing.specs.Content.{text_in, document_measure};
 
 use crate::readings::Readings;
 use grammar::Grammar;
@@ -20,7 +20,7 @@ pub fn state_before<X: Copy, G: Grammar, H: Meter<Reading = X>>(
     meter: &DocumentMeter<G, H>,
     place: u32,
 ) -> u8
-    ensures { Kept-by tree.now (document-measure (G.Grammar.meaning meter.now.first.grammar) (H.Meter.scale meter.now.second.second)) → result ≡ state-before (G.Grammar.meaning meter.now.first.grammar) (text_in tree.now) place }
+    ensures { KeptBy tree.now (document_measure (G.Grammar.meaning meter.now.first.grammar) (H.Meter.scale meter.now.second.second)) → result ≡ state_before (G.Grammar.meaning meter.now.first.grammar) (text_in tree.now) place }
 {
     let search = OnFirst {
         search: StateBefore {
@@ -43,7 +43,7 @@ pub fn apart_from<X: Copy, G: Grammar, H: Meter<Reading = X>>(
     states: TwoStates,
 ) -> usize
     ensures within { result ≤ length (drop place (text_in tree.now)) }
-    ensures meets { Kept-by tree.now (document-measure (G.Grammar.meaning meter.now.first.grammar) (H.Meter.scale meter.now.second.second)) → result ≡ apart (G.Grammar.meaning meter.now.first.grammar) states.old states.new (drop place (text_in tree.now)) }
+    ensures meets { KeptBy tree.now (document_measure (G.Grammar.meaning meter.now.first.grammar) (H.Meter.scale meter.now.second.second)) → result ≡ apart (G.Grammar.meaning meter.now.first.grammar) states.old states.new (drop place (text_in tree.now)) }
 {
     let search = OnFirst {
         search: Meeting {

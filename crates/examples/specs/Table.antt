@@ -7,8 +7,8 @@ use Rattle.automaton.specs.Comment.{comment}
 use Rattle.automaton.specs.Quoted.{quoted}
 use Rattle.automaton.specs.Region.{region}
 use Rattle.model.specs.declared.change.Change.{Change}
-use Rattle.model.specs.Edit.{edited-text, edited-chunks}
-use Rattle.model.specs.End.{edit-change}
+use Rattle.model.specs.Edit.{edited_text, edited_chunks}
+use Rattle.model.specs.End.{edit_change}
 use Rattle.model.specs.Paint.{painted}
 
 -- a # b, line feed, 1
@@ -19,25 +19,25 @@ abbrev pub change : ℕ → ℕ → ℕ → ℕ → Change
 change place removed inserted end = record { place = place; removed = removed; inserted = inserted; end = end }
 
 -- How long the chunks are that an edit leaves of chunks of given lengths.
-abbrev pub lengths-after : List ℕ → ℕ → ℕ → ℕ → List ℕ
-lengths-after lengths from to count = map length (edited-chunks (map (λ n. replicate n 0x61) lengths) from to (replicate count 0x61))
+abbrev pub lengths_after : List ℕ → ℕ → ℕ → ℕ → List ℕ
+lengths_after lengths from to count = map length (edited_chunks (map (λ n. replicate n 0x61) lengths) from to (replicate count 0x61))
 
-pub record Worked-examples : Type 0 where
+pub record WorkedExamples : Type 0 where
   -- a digit goes on with a word, a point with a number, and a letter ends one
-  pub words-and-numbers : colours words (codes "a1 2.5m") ≡ 1 ∷ 1 ∷ 0 ∷ 2 ∷ 2 ∷ 2 ∷ 1 ∷ []
-  pub comment-ends-with-line : colours (comment words) noted ≡ 1 ∷ 4 ∷ 4 ∷ 0 ∷ 2 ∷ []
+  pub words_and_numbers : colours words (codes "a1 2.5m") ≡ 1 ∷ 1 ∷ 0 ∷ 2 ∷ 2 ∷ 2 ∷ 1 ∷ []
+  pub comment_ends_with_line : colours (comment words) noted ≡ 1 ∷ 4 ∷ 4 ∷ 0 ∷ 2 ∷ []
   -- quote, backslash, quote, a, quote
-  pub escaped-quote-ends-nothing : colours (quoted words) (0x22 ∷ 0x5C ∷ 0x22 ∷ 0x61 ∷ 0x22 ∷ []) ≡ 5 ∷ 6 ∷ 6 ∷ 5 ∷ 5 ∷ []
+  pub escaped_quote_ends_nothing : colours (quoted words) (0x22 ∷ 0x5C ∷ 0x22 ∷ 0x61 ∷ 0x22 ∷ []) ≡ 5 ∷ 6 ∷ 6 ∷ 5 ∷ 5 ∷ []
   -- a ` 1 ` b
-  pub region-between-borders : colours (region words words) (0x61 ∷ 0x60 ∷ 0x31 ∷ 0x60 ∷ 0x62 ∷ []) ≡ 1 ∷ 7 ∷ 2 ∷ 7 ∷ 1 ∷ []
-  pub region-states : (region words words).count ≡ 12
+  pub region_between_borders : colours (region words words) (0x61 ∷ 0x60 ∷ 0x31 ∷ 0x60 ∷ 0x62 ∷ []) ≡ 1 ∷ 7 ∷ 2 ∷ 7 ∷ 1 ∷ []
+  pub region_states : (region words words).count ≡ 12
   -- the comment's first byte taken out: all behind the line end is as it was
-  pub edit-ends-behind-line : edit-change (comment words) noted 1 2 [] ≡ change 1 1 0 3
-  pub paint-moves-the-tail : painted (comment words) (edited-text noted 1 2 []) (change 1 1 0 3) (1 ∷ 4 ∷ 4 ∷ 0 ∷ 2 ∷ []) ≡ 1 ∷ 1 ∷ 0 ∷ 2 ∷ 2 ∷ []
+  pub edit_ends_behind_line : edit_change (comment words) noted 1 2 [] ≡ change 1 1 0 3
+  pub paint_moves_the_tail : painted (comment words) (edited_text noted 1 2 []) (change 1 1 0 3) (1 ∷ 4 ∷ 4 ∷ 0 ∷ 2 ∷ []) ≡ 1 ∷ 1 ∷ 0 ∷ 2 ∷ 2 ∷ []
   -- a quote put before the text: the walks never meet again
-  pub quote-recolours-to-the-end : edit-change (quoted words) (codes "ab") 0 0 (0x22 ∷ []) ≡ change 0 0 1 3
-  pub one-chunk-of-64 : lengths-after [] 0 0 64 ≡ 64 ∷ []
-  pub two-chunks-of-65 : lengths-after [] 0 0 65 ≡ 33 ∷ 32 ∷ []
+  pub quote_recolours_to_the_end : edit_change (quoted words) (codes "ab") 0 0 (0x22 ∷ []) ≡ change 0 0 1 3
+  pub one_chunk_of_64 : lengths_after [] 0 0 64 ≡ 64 ∷ []
+  pub two_chunks_of_65 : lengths_after [] 0 0 65 ≡ 33 ∷ 32 ∷ []
   -- 23 bytes are few and take their neighbour along, 32 are enough
-  pub few-bytes-take-a-neighbour : lengths-after (33 ∷ 32 ∷ []) 0 10 0 ≡ 55 ∷ []
-  pub enough-bytes-stay-alone : lengths-after (33 ∷ 32 ∷ []) 0 1 0 ≡ 32 ∷ 32 ∷ []
+  pub few_bytes_take_a_neighbour : lengths_after (33 ∷ 32 ∷ []) 0 10 0 ≡ 55 ∷ []
+  pub enough_bytes_stay_alone : lengths_after (33 ∷ 32 ∷ []) 0 1 0 ≡ 32 ∷ 32 ∷ []

@@ -1,7 +1,7 @@
 // The tree of the chunks that bytes are cut into.
 ghost use Rattle.std.specs.Prelude.{◌≡◌, ℕ, ◌+◌, ◌<◌, ◌≤◌, List, length};
 ghost use Rattle.chunks.specs.Tree.{Tree, root};
-ghost use Rattle.chunks.specs.Cut.{needed, begin as begin-of, chunk-at, part};
+ghost use Rattle.chunks.specs.Cut.{needed, begin as begin_of, chunk_at, part};
 ghost use Rattle.slots.specs.Free.{Idle, Built};
 
 use crate::store::store_chunk;
@@ -13,7 +13,7 @@ use slots::memory::Memory;
 // Where the k-th of `count` chunks of `length` bytes begins.
 fn begin(bytes: usize, count: usize, k: usize) -> usize
     requires { (0 < count) × (k ≤ count) }
-    ensures { result ≡ begin-of bytes count k }
+    ensures { result ≡ begin_of bytes count k }
 {
     k * (bytes / count) + k.min(bytes % count)
 }
@@ -21,7 +21,7 @@ fn begin(bytes: usize, count: usize, k: usize) -> usize
 // The k-th of the `count` chunks that `bytes` are cut into.
 pub fn chunk(bytes: &[u8], count: usize, k: usize) -> &[u8]
     requires { k < count }
-    ensures { result.now ≡ chunk-at bytes.now count k }
+    ensures { result.now ≡ chunk_at bytes.now count k }
 {
     let from = begin(bytes.len(), count, k);
     let to = begin(bytes.len(), count, k + 1);

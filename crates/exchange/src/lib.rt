@@ -1,5 +1,8 @@
 // Chunks exchanged in a tree: free slots taken and given back, chunks stored, built into a tree, taken out and put in.
 // Each function asks that memory holds what it is told; the crate `tree` wraps them so that no call asks anything.
+
+#![tactic(auto)]
+
 pub mod build;
 pub mod free;
 pub mod prepare;

@@ -1,7 +1,7 @@
 // Lent memory made ready: a number of slots usable, all of them free.
 ghost use Rattle.std.specs.Prelude.{◌≡◌, ℕ, ◌+◌, ◌*◌, ◌<◌, ◌≤◌, [], length, None};
 ghost use Rattle.slots.specs.View.{Roomy};
-ghost use Rattle.slots.specs.Sound.{Sound, chunks-in, Kept};
+ghost use Rattle.slots.specs.Sound.{Sound, chunks_in, Kept};
 ghost use Rattle.slots.specs.Prepare.{Prepared};
 
 use crate::free::give;

@@ -2,8 +2,8 @@
 ghost use Rattle.std.specs.Prelude.{◌≡◌, ℕ, ◌+◌, ◌-◌, ◌<◌, ◌≤◌, List, length};
 ghost use Rattle.chunks.specs.Tree.{Tree};
 ghost use Rattle.chunks.specs.Cut.{needed, cut, replaced};
-ghost use Rattle.slots.specs.Replace.{Whole, Parted, Same-size, Removed, Filled};
-ghost use Rattle.slots.specs.Sound.{Sound, Kept, chunks-in};
+ghost use Rattle.slots.specs.Replace.{Whole, Parted, SameSize, Removed, Filled};
+ghost use Rattle.slots.specs.Sound.{Sound, Kept, chunks_in};
 
 use crate::build::build;
 use crate::free::give_back;
@@ -54,11 +54,11 @@ pub fn exchange<R: Copy, M: Meter<Reading = R>>(
     to: u16,
     bytes: &[u8],
 ) -> Option<u16>
-    requires { (Sound memory.old link) × ((from ≤ to) × ((to ≤ length (chunks-in memory.old link)) × (length (chunks-in memory.old link) - (to - from) + needed (length bytes.now) ≤ memory.old.usable))) }
+    requires { (Sound memory.old link) × ((from ≤ to) × ((to ≤ length (chunks_in memory.old link)) × (length (chunks_in memory.old link) - (to - from) + needed (length bytes.now) ≤ memory.old.usable))) }
     ensures sound { Sound memory.new result }
-    ensures chunks { chunks-in memory.new result ≡ replaced from to (cut bytes.now) (chunks-in memory.old link) }
+    ensures chunks { chunks_in memory.new result ≡ replaced from to (cut bytes.now) (chunks_in memory.old link) }
     ensures keeps { Kept (M.scale meter.now) memory.old link → Kept (M.scale meter.now) memory.new result }
-    ensures size { Same-size memory.old memory.new }
+    ensures size { SameSize memory.old memory.new }
 {
     let (first, rest) = remove(meter, memory, link, from, to);
     insert(meter, memory, first, rest, bytes)

@@ -1,6 +1,6 @@
 // Colouring and walking a run of bytes from a state: the leaves that every call uses.
 ghost use Rattle.std.specs.Prelude.{◌≡◌};
-ghost use Rattle.automaton.specs.Walk.{walk as walk_from, colours-from};
+ghost use Rattle.automaton.specs.Walk.{walk as walk_from, colours_from};
 
 use crate::interface::Grammar;
 
@@ -18,7 +18,7 @@ pub fn walk<G: Grammar>(grammar: &G, state: u8, bytes: &[u8]) -> u8
 // Colours cells that hold bytes: each byte, read from `state` on, gives way to its class. Gives the state behind the bytes.
 pub fn colour<G: Grammar>(grammar: &G, state: u8, cells: &mut [u8]) -> u8
     ensures behind { result ≡ walk_from (G.meaning grammar.now) state cells.old }
-    ensures coloured { cells.new ≡ colours-from (G.meaning grammar.now) state cells.old }
+    ensures coloured { cells.new ≡ colours_from (G.meaning grammar.now) state cells.old }
 {
     let mut now_in = state;
     for i in 0..cells.len() {

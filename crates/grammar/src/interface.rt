@@ -1,7 +1,7 @@
 // The interface of a grammar: four answers, each from the grammar's own value alone, and the role of a byte.
 ghost use Rattle.std.specs.Prelude.{◌≡◌};
 ghost use Rattle.automaton.specs.Automaton.{Automaton, Lawful};
-ghost use Rattle.automaton.specs.Bracket.{role as role-of};
+ghost use Rattle.automaton.specs.Bracket.{role as role_of};
 
 use crate::class;
 use automaton::role::Role;
@@ -30,7 +30,7 @@ pub trait Grammar {
 
     // The role of `byte` read from `state`: a bracket that is a mark, or nothing.
     fn role(&self, state: u8, byte: u8) -> Role
-        ensures { result ≡ role-of (meaning self.now) state byte }
+        ensures { result ≡ role_of (meaning self.now) state byte }
     {
         if self.class(state, byte) != class::MARK {
             return Role::Plain;

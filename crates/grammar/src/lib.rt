@@ -1,4 +1,7 @@
 // What colours bytes: the interface of a grammar, scene words, and colouring a run of bytes.
+
+#![tactic(auto)]
+
 pub mod class;
 pub mod colouring;
 pub mod interface;

@@ -1,7 +1,7 @@
 // Scene words: blanks, words, numbers and marks, the grammar at the bottom of every pile.
 ghost use Rattle.std.specs.Prelude.{◌≡◌};
-ghost use Rattle.automaton.specs.Words.{words, byte-kind};
-ghost use Rattle.automaton.proofs.Words.{words-lawful};
+ghost use Rattle.automaton.specs.Words.{words, byte_kind};
+ghost use Rattle.automaton.proofs.Words.{words_lawful};
 
 use crate::class;
 use crate::interface::Grammar;
@@ -20,7 +20,7 @@ const IN_NUMBER: u8 = 2;
 pub struct Words;
 
 fn kind_of(byte: u8) -> ByteKind
-    ensures { result ≡ byte-kind byte }
+    ensures { result ≡ byte_kind byte }
 {
     match byte {
         b'\t' | b'\n' | b'\r' | b' ' => ByteKind::Blank,
@@ -34,7 +34,7 @@ fn kind_of(byte: u8) -> ByteKind
 impl Grammar for Words {
     ghost meaning = { λ _. words };
 
-    ghost lawful = { λ _. words-lawful };
+    ghost lawful = { λ _. words_lawful };
 
     fn count(&self) -> u8 {
         COUNT

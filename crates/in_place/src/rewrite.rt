@@ -1,9 +1,9 @@
 // As many chunks as there were, written over them in their slots; only the path to them is linked anew.
 ghost use Rattle.std.specs.Prelude.{◌≡◌, ℕ, ◌+◌, ◌-◌, ◌^◌, ◌<◌, ◌≤◌, length};
-ghost use Rattle.chunks.specs.Tree.{Tree, slots as slots-of};
+ghost use Rattle.chunks.specs.Tree.{Tree, slots as slots_of};
 ghost use Rattle.chunks.specs.Cut.{needed, cut, replaced};
-ghost use Rattle.slots.specs.Replace.{Same-size};
-ghost use Rattle.slots.specs.Sound.{Sound, Kept, chunks-in};
+ghost use Rattle.slots.specs.Replace.{SameSize};
+ghost use Rattle.slots.specs.Sound.{Sound, Kept, chunks_in};
 ghost use Rattle.slots.specs.View.{size_of, Roomy};
 ghost use Rattle.slots.specs.Split.{Held};
 ghost use Rattle.slots.specs.Rewrite.{Renewed, Rewritten};
@@ -48,7 +48,7 @@ pub fn rewrite<R: Copy, M: Meter<Reading = R>>(
     count: usize,
     from: usize,
 )
-    requires { (((t : Tree) × (Held memory.old link t × (n + length (slots-of t) < 2 ^ 63)))) × ((count ≡ needed (length bytes.now)) × (from + count < 2 ^ 63)) }
+    requires { (((t : Tree) × (Held memory.old link t × (n + length (slots_of t) < 2 ^ 63)))) × ((count ≡ needed (length bytes.now)) × (from + count < 2 ^ 63)) }
     ensures { (t : Tree) → Held memory.old link t → Rewritten (M.scale meter.now) memory.old t n bytes.now count from (from + count) memory.new }
 {
     let Some(i) = link else {
@@ -77,11 +77,11 @@ pub fn overwrite<R: Copy, M: Meter<Reading = R>>(
     from: u16,
     bytes: &[u8],
 )
-    requires { (Sound memory.old link) × (from + needed (length bytes.now) ≤ length (chunks-in memory.old link)) }
+    requires { (Sound memory.old link) × (from + needed (length bytes.now) ≤ length (chunks_in memory.old link)) }
     ensures sound { Sound memory.new link }
-    ensures chunks { chunks-in memory.new link ≡ replaced from (from + needed (length bytes.now)) (cut bytes.now) (chunks-in memory.old link) }
+    ensures chunks { chunks_in memory.new link ≡ replaced from (from + needed (length bytes.now)) (cut bytes.now) (chunks_in memory.old link) }
     ensures keeps { Kept (M.scale meter.now) memory.old link → Kept (M.scale meter.now) memory.new link }
-    ensures size { Same-size memory.old memory.new }
+    ensures size { SameSize memory.old memory.new }
 {
     let count = bytes.len().div_ceil(64);
     rewrite(meter, memory, link, 0, bytes, count, from as usize);

@@ -1,7 +1,7 @@
 // Comment: a layer in which a comment runs from its begin byte to the end of the line.
 ghost use Rattle.std.specs.Prelude.{◌≡◌};
-ghost use Rattle.automaton.specs.Comment.{comment, comment-state};
-ghost use Rattle.automaton.proofs.Comment.{comment-lawful};
+ghost use Rattle.automaton.specs.Comment.{comment, comment_state};
+ghost use Rattle.automaton.proofs.Comment.{comment_lawful};
 
 use crate::layer::{LINE_FEED, begins, fitted};
 use automaton::layer_state::CommentState;
@@ -17,7 +17,7 @@ pub struct Comment<G> {
 impl<G: Grammar> Comment<G> {
     // What a state of the layer stands for.
     fn state_of(&self, state: u8) -> CommentState
-        ensures { result ≡ comment-state (G.Grammar.meaning self.now.below) state }
+        ensures { result ≡ comment_state (G.Grammar.meaning self.now.below) state }
     {
         let n = self.below.count();
         if state < n {
@@ -31,7 +31,7 @@ impl<G: Grammar> Comment<G> {
 impl<G: Grammar> Grammar for Comment<G> {
     ghost meaning = { λ g. comment (G.Grammar.meaning g.below) };
 
-    ghost lawful = { λ g. comment-lawful (G.Grammar.meaning g.below) (G.Grammar.lawful g.below) };
+    ghost lawful = { λ g. comment_lawful (G.Grammar.meaning g.below) (G.Grammar.lawful g.below) };
 
     fn count(&self) -> u8 {
         fitted(2 * self.below.count() as u16)

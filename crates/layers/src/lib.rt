@@ -1,5 +1,8 @@
 // The layers: grammars made of other grammars, so that they can be piled up.
 // A comment runs to the end of the line, a string from quote to quote, a region from border to border.
+
+#![tactic(auto)]
+
 pub mod comment_layer;
 mod layer;
 pub mod quoted_layer;

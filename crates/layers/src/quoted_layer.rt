@@ -1,8 +1,8 @@
 // Quoted: the string layer, in which a string runs from quote to quote or to the end of the line.
 // It is not called String, since that is the prelude's own type.
 ghost use Rattle.std.specs.Prelude.{◌≡◌};
-ghost use Rattle.automaton.specs.Quoted.{quoted, quoted-state};
-ghost use Rattle.automaton.proofs.Quoted.{quoted-lawful};
+ghost use Rattle.automaton.specs.Quoted.{quoted, quoted_state};
+ghost use Rattle.automaton.proofs.Quoted.{quoted_lawful};
 
 use crate::layer::{LINE_FEED, begins, fitted};
 use automaton::layer_state::QuotedState;
@@ -20,7 +20,7 @@ pub struct Quoted<G> {
 impl<G: Grammar> Quoted<G> {
     // What a state of the layer stands for.
     fn state_of(&self, state: u8) -> QuotedState
-        ensures { result ≡ quoted-state (G.Grammar.meaning self.now.below) state }
+        ensures { result ≡ quoted_state (G.Grammar.meaning self.now.below) state }
     {
         let n = self.below.count();
         if state < n {
@@ -36,7 +36,7 @@ impl<G: Grammar> Quoted<G> {
 impl<G: Grammar> Grammar for Quoted<G> {
     ghost meaning = { λ g. quoted (G.Grammar.meaning g.below) };
 
-    ghost lawful = { λ g. quoted-lawful (G.Grammar.meaning g.below) (G.Grammar.lawful g.below) };
+    ghost lawful = { λ g. quoted_lawful (G.Grammar.meaning g.below) (G.Grammar.lawful g.below) };
 
     fn count(&self) -> u8 {
         fitted(3 * self.below.count() as u16)

@@ -1,7 +1,7 @@
 // Region: a layer in which what stands between two border bytes is read by a second grammar.
 ghost use Rattle.std.specs.Prelude.{◌≡◌, ◌<◌};
-ghost use Rattle.automaton.specs.Region.{region, region-state};
-ghost use Rattle.automaton.proofs.Region.{region-lawful};
+ghost use Rattle.automaton.specs.Region.{region, region_state};
+ghost use Rattle.automaton.proofs.Region.{region_lawful};
 
 use crate::layer::{begins, fitted};
 use automaton::layer_state::RegionState;
@@ -19,7 +19,7 @@ impl<G: Grammar, H: Grammar> Region<G, H> {
     // What a state of the layer stands for, where the inner grammar can be used.
     fn state_of(&self, state: u8) -> RegionState
         requires { 0 < (H.Grammar.meaning self.now.inner).count }
-        ensures { result ≡ region-state (G.Grammar.meaning self.now.below) (H.Grammar.meaning self.now.inner) state }
+        ensures { result ≡ region_state (G.Grammar.meaning self.now.below) (H.Grammar.meaning self.now.inner) state }
     {
         let n = self.below.count();
         if state < n {
@@ -33,7 +33,7 @@ impl<G: Grammar, H: Grammar> Region<G, H> {
 impl<G: Grammar, H: Grammar> Grammar for Region<G, H> {
     ghost meaning = { λ g. region (G.Grammar.meaning g.below) (H.Grammar.meaning g.inner) };
 
-    ghost lawful = { λ g. region-lawful (G.Grammar.meaning g.below) (H.Grammar.meaning g.inner) (G.Grammar.lawful g.below) (H.Grammar.lawful g.inner) };
+    ghost lawful = { λ g. region_lawful (G.Grammar.meaning g.below) (H.Grammar.meaning g.inner) (G.Grammar.lawful g.below) (H.Grammar.lawful g.inner) };
 
     fn count(&self) -> u8 {
         let n = self.below.count() as u16;

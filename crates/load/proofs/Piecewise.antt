@@ -6,21 +6,21 @@ use Rattle.std.proofs.lemmas.Slice.{between_is}
 use Rattle.std.proofs.lemmas.Bool.{cases_lt}
 use Rattle.std.proofs.lemmas.Bool.Decides.{nat_tests}
 use Rattle.chunks.specs.Cut.{needed, joined, cut, replaced}
-use Rattle.chunks.proofs.Cut.{cut-joined, cut-length}
-use Rattle.chunks.proofs.Joined.{joined-append}
-use Rattle.slots.proofs.Ranges.{between-long}
+use Rattle.chunks.proofs.Cut.{cut_joined, cut_length}
+use Rattle.chunks.proofs.Joined.{joined_append}
+use Rattle.slots.proofs.Ranges.{between_long}
 use Rattle.slots.specs.declared.slot.Slot.{Slot}
 use Rattle.tree.specs.declared.chunk_tree.ChunkTree.{ChunkTree}
 use Rattle.tree.specs.Public.{preparable}
 use Rattle.load.specs.Loading.{roomy}
 
-pub record So-far (text : List ℕ) (n k : ℕ) (chunks : List (List ℕ)) : Type 0 where
-  pub joined-are : joined chunks ≡ take (k * 1024) text
+pub record SoFar (text : List ℕ) (n k : ℕ) (chunks : List (List ℕ)) : Type 0 where
+  pub joined_are : joined chunks ≡ take (k * 1024) text
   pub few : length chunks ≡ needed (length (take (k * 1024) text))
   pub enough : length chunks ≤ n
 
-pub so-far-none : (text : List ℕ) (n : ℕ) → So-far text n 0 []
-so-far-none text n = record { joined-are = refl; few = refl; enough = omega arith }
+pub so_far_none : (text : List ℕ) (n : ℕ) → SoFar text n 0 []
+so_far_none text n = record { joined_are = refl; few = refl; enough = omega arith }
 
 -- Chunks put behind others.
 behind : (chunks new : List (List ℕ)) (end : ℕ) → end ≡ length chunks → replaced end end new chunks ≡ chunks ++ new
@@ -54,35 +54,35 @@ module _ (text : List ℕ) (n k to : ℕ) (ends : to ≡ k * 1024 + min (length 
   abbrev pub taken : List (List ℕ) → ℕ → ℕ → Bool
   taken chunks end m = leb end end && (leb end (length chunks) && leb (length chunks - (end - end) + needed (length piece)) m)
 
-  module _ (chunks : List (List ℕ)) (end m : ℕ) (so_far : So-far text n k chunks) (some : k * 1024 < length text) (at-end : end ≡ length chunks) (all : m ≡ n) where
-    pub so_far_more : (after : List (List ℕ)) → after ≡ replaced end end (cut piece) chunks → true ≡ taken chunks end m → So-far text n (k + 1) after
+  module _ (chunks : List (List ℕ)) (end m : ℕ) (so_far : SoFar text n k chunks) (some : k * 1024 < length text) (at_end : end ≡ length chunks) (all : m ≡ n) where
+    pub so_far_more : (after : List (List ℕ)) → after ≡ replaced end end (cut piece) chunks → true ≡ taken chunks end m → SoFar text n (k + 1) after
     so_far_more after is fits =
-        let both : after ≡ chunks ++ cut piece = is ∙ behind chunks (cut piece) end at-end in
+        let both : after ≡ chunks ++ cut piece = is ∙ behind chunks (cut piece) end at_end in
         let long = ap length both ∙ length-append chunks (cut piece) in
-        let size = between-long (k * 1024) to text (omega arith) in
+        let size = between_long (k * 1024) to text (omega arith) in
         record {
-          joined-are = ap joined both ∙ joined-append chunks (cut piece) ∙ ap (λ l. l ++ joined (cut piece)) so_far.joined-are ∙ ap (λ l. take (k * 1024) text ++ l) (cut-joined piece) ∙ further;
-          few = omega (arith, so_far.few, cut-length piece, length-take (k * 1024) text, length-take ((k + 1) * 1024) text);
-          enough = let room : length chunks - (end - end) + needed (length piece) ≤ m = grind (arith, nat_tests) in omega (arith, cut-length piece);
+          joined_are = ap joined both ∙ joined_append chunks (cut piece) ∙ ap (λ l. l ++ joined (cut piece)) so_far.joined_are ∙ ap (λ l. take (k * 1024) text ++ l) (cut_joined piece) ∙ further;
+          few = omega (arith, so_far.few, cut_length piece, length-take (k * 1024) text, length-take ((k + 1) * 1024) text);
+          enough = let room : length chunks - (end - end) + needed (length piece) ≤ m = grind (arith, nat_tests) in omega (arith, cut_length piece);
         }
 
-    pub so-far-full : false ≡ taken chunks end m → n < needed (length text)
-    so-far-full over =
+    pub so_far_full : false ≡ taken chunks end m → n < needed (length text)
+    so_far_full over =
         let room : m < length chunks - (end - end) + needed (length piece) = grind (arith, nat_tests) in
-        omega (arith, so_far.few, between-long (k * 1024) to text (omega arith), length-take (k * 1024) text)
+        omega (arith, so_far.few, between_long (k * 1024) to text (omega arith), length-take (k * 1024) text)
 
 -- All pieces are in.
-module _ (text : List ℕ) (n k : ℕ) (chunks : List (List ℕ)) (so_far : So-far text n k chunks) (all : length text ≤ k * 1024) where
-  pub so-far-all : joined chunks ≡ text
-  so-far-all = so_far.joined-are ∙ take_all (k * 1024) text all
+module _ (text : List ℕ) (n k : ℕ) (chunks : List (List ℕ)) (so_far : SoFar text n k chunks) (all : length text ≤ k * 1024) where
+  pub so_far_all : joined chunks ≡ text
+  so_far_all = so_far.joined_are ∙ take_all (k * 1024) text all
 
-  pub so-far-few : length chunks ≡ needed (length text)
-  so-far-few = so_far.few ∙ ap (λ l. needed (length l)) (take_all (k * 1024) text all)
+  pub so_far_few : length chunks ≡ needed (length text)
+  so_far_few = so_far.few ∙ ap (λ l. needed (length l)) (take_all (k * 1024) text all)
 
-and-grouped : (x y z : Bool) → (x && (y && z)) ≡ ((x && y) && z)
-and-grouped true y z = refl
-and-grouped false y z = refl
+and_grouped : (x y z : Bool) → (x && (y && z)) ≡ ((x && y) && z)
+and_grouped true y z = refl
+and_grouped false y z = refl
 
 -- A new tree can be prepared exactly if lent memory has room.
-pub room-is : {R : Type 0} (T : ChunkTree R) (n : ℕ) (lent : List (Slot R)) (store : List ℕ) (readings : List R) → T.memory.usable ≡ 0 → T.memory.slots.now ≡ lent → T.memory.store.now ≡ store → T.memory.readings.now ≡ readings → preparable T n ≡ roomy n lent store readings
-room-is T n lent store readings e s b r = simp (e, s, b, r) (and-grouped (leb 1 n) (leb n 4096) _)
+pub room_is : {R : Type 0} (T : ChunkTree R) (n : ℕ) (lent : List (Slot R)) (store : List ℕ) (readings : List R) → T.memory.usable ≡ 0 → T.memory.slots.now ≡ lent → T.memory.store.now ≡ store → T.memory.readings.now ≡ readings → preparable T n ≡ roomy n lent store readings
+room_is T n lent store readings e s b r = simp (e, s, b, r) (and_grouped (leb 1 n) (leb n 4096) _)

@@ -4,7 +4,7 @@ use Rattle.std.specs.Str.Parse.{IsNumeral, without_leading_plus, digits_value}
 use Rattle.automaton.specs.Automaton.{Automaton}
 use Rattle.chunks.specs.Tree.{Tree, Balanced, slots, height}
 use Rattle.chunks.specs.Cut.{needed}
-use Rattle.report.specs.Summary.{summary, summary-line}
+use Rattle.report.specs.Summary.{summary, summary_line}
 use Rattle.load.specs.declared.loaded.Loaded.{Loaded}
 
 -- A tree can have n slots.
@@ -17,11 +17,11 @@ roomy n lent store readings = usual n && (nat_le n (length lent) && (nat_le n (l
 
 -- What the tree says of the text in it. Its form, and so its height, is left to the program within the balance rule.
 pub record Tells (a : Automaton) (text : List ℕ) (l : Loaded) : Type 0 where
-  pub bytes-are : l.bytes ≡ length text
-  pub chunks-are : l.chunks ≡ needed (length text)
-  pub height-is : (t : Tree) × Balanced t × (length (slots t) ≡ l.chunks) × (height t ≡ l.height)
+  pub bytes_are : l.bytes ≡ length text
+  pub chunks_are : l.chunks ≡ needed (length text)
+  pub height_is : (t : Tree) × Balanced t × (length (slots t) ≡ l.chunks) × (height t ≡ l.height)
   pub low : l.height ≤ 16
-  pub summary-is : l.summary ≡ summary a text
+  pub summary_is : l.summary ≡ summary a text
 
 -- A text is loaded exactly if there is room for n slots and they suffice for its chunks.
 abbrev pub loadable : Bool → ℕ → List ℕ → Bool
@@ -35,11 +35,11 @@ Answers room a n text (Some l) = (loadable room n text ≡ true) × Tells a text
 abbrev pub Names : List ℕ → ℕ → Type 0
 Names word n = IsNumeral 10 (without_leading_plus word) × (digits_value 10 (without_leading_plus word) ≡ n) × (usual n ≡ true)
 
-abbrev pub Slots-named : List ℕ → Option ℕ → Type 0
-Slots-named word None = (n : ℕ) → Names word n → ⊥
-Slots-named word (Some n) = Names word n
+abbrev pub SlotsNamed : List ℕ → Option ℕ → Type 0
+SlotsNamed word None = (n : ℕ) → Names word n → ⊥
+SlotsNamed word (Some n) = Names word n
 
 -- The two lines that are written of it.
 abbrev pub loaded_lines : Loaded → List ℕ
 loaded_lines l =
-    codes "bytes " ++ (decimal l.bytes ++ (codes " chunks " ++ (decimal l.chunks ++ (codes " height " ++ (decimal l.height ++ (codes "\n" ++ summary-line l.summary))))))
+    codes "bytes " ++ (decimal l.bytes ++ (codes " chunks " ++ (decimal l.chunks ++ (codes " height " ++ (decimal l.height ++ (codes "\n" ++ summary_line l.summary))))))

@@ -1,4 +1,7 @@
 // A text loaded into a tree of chunks, and what the tree then says of it.
+
+#![tactic(auto)]
+
 pub mod lines;
 pub mod loaded;
 pub mod loading;

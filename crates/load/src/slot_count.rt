@@ -1,11 +1,11 @@
 // How many slots a tree is given: what a word says, and the most.
-ghost use Rattle.load.specs.Loading.{Slots-named};
+ghost use Rattle.load.specs.Loading.{SlotsNamed};
 
 pub const MOST: u16 = 4096;
 
 // The number that a word says, if a tree can have as many slots.
 pub fn slots_named(word: &str) -> Option<u16>
-    ensures { Slots-named word.now result }
+    ensures { SlotsNamed word.now result }
 {
     let Ok(count) = word.parse::<u16>() else {
         return None;

@@ -8,9 +8,9 @@ use Rattle.locate.specs.declared.walked.Walked.{Walked}
 abbrev pub walked : ℕ → ℕ → Walked
 walked left state = record { left = left; state = state }
 
-abbrev pub walk-on : Automaton → Walked → ℕ → Option Walked
-walk-on a w b = cond (w.left == 0) None (Some (walked (w.left - 1) (a.step w.state b)))
+abbrev pub walk_on : Automaton → Walked → ℕ → Option Walked
+walk_on a w b = cond (w.left == 0) None (Some (walked (w.left - 1) (a.step w.state b)))
 
 -- What it has kept when it stops is the state before the place.
-abbrev pub Walk-comes-to-place : Type 0
-Walk-comes-to-place = (a : Automaton) (s place : ℕ) (text : List ℕ) → (stop (walk-on a) (walked place s) text).at.state ≡ walk a s (take place text)
+abbrev pub WalkComesToPlace : Type 0
+WalkComesToPlace = (a : Automaton) (s place : ℕ) (text : List ℕ) → (stop (walk_on a) (walked place s) text).at.state ≡ walk a s (take place text)

@@ -1,7 +1,7 @@
 // The search for a column of a line, by the readings of Place.
 ghost use Rattle.std.specs.Prelude.{◌≡◌};
-ghost use Rattle.measure.specs.Place.{place-measure};
-ghost use Rattle.locate.specs.InLine.{column-on};
+ghost use Rattle.measure.specs.Place.{place_measure};
+ghost use Rattle.locate.specs.InLine.{column_on};
 
 use crate::lined::Lined;
 use measure::bounded_reading::Bounded;
@@ -19,9 +19,9 @@ impl Forward for InLine {
 
     type At = Lined;
 
-    ghost scale = { λ _. place-measure };
+    ghost scale = { λ _. place_measure };
 
-    ghost goes = { λ s. column-on s.column };
+    ghost goes = { λ s. column_on s.column };
 
     fn next(&self, at: Lined, byte: u8) -> Option<Lined> {
         if at.lines > 0 {

@@ -1,4 +1,7 @@
 // What is sought in a text: the state before a place, where two walks meet, a column of a line.
+
+#![tactic(auto)]
+
 pub mod in_line;
 pub mod laws;
 pub mod lined;

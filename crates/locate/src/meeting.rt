@@ -1,7 +1,7 @@
 // The search for the place where two walks come into one state, by the readings of Walk.
 ghost use Rattle.std.specs.Prelude.{◌≡◌};
-ghost use Rattle.measure.specs.Walk.{walk-measure};
-ghost use Rattle.locate.specs.Meeting.{meet-on};
+ghost use Rattle.measure.specs.Walk.{walk_measure};
+ghost use Rattle.locate.specs.Meeting.{meet_on};
 
 use crate::two_states::TwoStates;
 use grammar::Grammar;
@@ -19,9 +19,9 @@ impl<'g, G: Grammar> Forward for Meeting<'g, G> {
 
     type At = TwoStates;
 
-    ghost scale = { λ s. walk-measure (G.Grammar.meaning s.grammar.now) };
+    ghost scale = { λ s. walk_measure (G.Grammar.meaning s.grammar.now) };
 
-    ghost goes = { λ s. meet-on (G.Grammar.meaning s.grammar.now) };
+    ghost goes = { λ s. meet_on (G.Grammar.meaning s.grammar.now) };
 
     fn next(&self, at: TwoStates, byte: u8) -> Option<TwoStates> {
         if at.old == at.new {

@@ -1,6 +1,6 @@
 // A search by the readings of one of two meters, in the readings of their pair.
 ghost use Rattle.std.specs.Prelude.{◌≡◌};
-ghost use Rattle.measure.specs.Pair.{pair-measure};
+ghost use Rattle.measure.specs.Pair.{pair_measure};
 
 use measure::pair_reading::PairReading;
 use meter::Meter;
@@ -17,7 +17,7 @@ impl<'m, S: Forward, M: Meter> Forward for OnFirst<'m, S, M> {
 
     type At = S::At;
 
-    ghost scale = { λ s. pair-measure (S.Forward.scale s.search) (M.Meter.scale s.other.now) };
+    ghost scale = { λ s. pair_measure (S.Forward.scale s.search) (M.Meter.scale s.other.now) };
 
     ghost goes = { λ s. S.Forward.goes s.search };
 
@@ -41,7 +41,7 @@ impl<'m, S: Forward, M: Meter> Forward for OnSecond<'m, S, M> {
 
     type At = S::At;
 
-    ghost scale = { λ s. pair-measure (M.Meter.scale s.other.now) (S.Forward.scale s.search) };
+    ghost scale = { λ s. pair_measure (M.Meter.scale s.other.now) (S.Forward.scale s.search) };
 
     ghost goes = { λ s. S.Forward.goes s.search };
 

@@ -1,7 +1,7 @@
 // The search for the state before a place, by the readings of Walk.
 ghost use Rattle.std.specs.Prelude.{◌≡◌};
-ghost use Rattle.measure.specs.Walk.{walk-measure};
-ghost use Rattle.locate.specs.StateBefore.{walk-on};
+ghost use Rattle.measure.specs.Walk.{walk_measure};
+ghost use Rattle.locate.specs.StateBefore.{walk_on};
 
 use crate::walked::Walked;
 use grammar::Grammar;
@@ -19,9 +19,9 @@ impl<'g, G: Grammar> Forward for StateBefore<'g, G> {
 
     type At = Walked;
 
-    ghost scale = { λ s. walk-measure (G.Grammar.meaning s.grammar.now) };
+    ghost scale = { λ s. walk_measure (G.Grammar.meaning s.grammar.now) };
 
-    ghost goes = { λ s. walk-on (G.Grammar.meaning s.grammar.now) };
+    ghost goes = { λ s. walk_on (G.Grammar.meaning s.grammar.now) };
 
     fn next(&self, at: Walked, byte: u8) -> Option<Walked> {
         if at.left == 0 {

@@ -2,26 +2,26 @@
 use Rattle.std.proofs.Common.{◌≡◌, ℕ, ◌+◌, ◌<◌, ◌≤◌, Bool, true, false, cond, leb, List, ◌++◌, length, sym, refl, ap, ◌∙◌, ⊎_elim, arith}
 use Rattle.std.proofs.lemmas.List.{length-append}
 use Rattle.std.proofs.lemmas.Bool.{cases_lt, cond-true, cond-false, le-leb, lt-leb}
-use Rattle.measure.specs.Bounded.{longest, bounded, join-bounded}
+use Rattle.measure.specs.Bounded.{longest, bounded, join_bounded}
 use Rattle.measure.specs.declared.bounded_reading.Bounded.{Bounded}
 use Rattle.measure.specs.declared.bounded_reading.Bounded.TheVariants.{Within, Overlong}
 
 module _ {T : Type 0} (said : List ℕ → T) where
-  pub bounded-within : (text : List ℕ) → length text ≤ longest → bounded said text ≡ Within (said text)
-  bounded-within text h = cond-true (leb (length text) longest) (Within (said text)) Overlong (le-leb (length text) longest h)
+  pub bounded_within : (text : List ℕ) → length text ≤ longest → bounded said text ≡ Within (said text)
+  bounded_within text h = cond-true (leb (length text) longest) (Within (said text)) Overlong (le-leb (length text) longest h)
 
-  pub bounded-over : (text : List ℕ) → longest < length text → bounded said text ≡ Overlong
-  bounded-over text h = cond-false (leb (length text) longest) (Within (said text)) Overlong (lt-leb (length text) longest h)
+  pub bounded_over : (text : List ℕ) → longest < length text → bounded said text ≡ Overlong
+  bounded_over text h = cond-false (leb (length text) longest) (Within (said text)) Overlong (lt-leb (length text) longest h)
 
-over-right : {T : Type 0} (long : T → ℕ) (beside : T → T → T) (r : Bounded T) → join-bounded long beside r Overlong ≡ Overlong
-over-right long beside (Within p) = refl
-over-right long beside Overlong = refl
+over_right : {T : Type 0} (long : T → ℕ) (beside : T → T → T) (r : Bounded T) → join_bounded long beside r Overlong ≡ Overlong
+over_right long beside (Within p) = refl
+over_right long beside Overlong = refl
 
 module _ {T : Type 0} (said : List ℕ → T) (long : T → ℕ) (beside : T → T → T)
     (length-said : (xs : List ℕ) → long (said xs) ≡ length xs)
     (beside-said : (xs ys : List ℕ) → length xs + length ys ≤ longest → beside (said xs) (said ys) ≡ said (xs ++ ys)) where
-  join-within : (xs ys : List ℕ) → join-bounded long beside (Within (said xs)) (Within (said ys)) ≡ bounded said (xs ++ ys)
-  join-within xs ys =
+  join_within : (xs ys : List ℕ) → join_bounded long beside (Within (said xs)) (Within (said ys)) ≡ bounded said (xs ++ ys)
+  join_within xs ys =
       let whole = length-append xs ys in
       let left = length-said xs in
       let right = length-said ys in
@@ -29,20 +29,20 @@ module _ {T : Type 0} (said : List ℕ → T) (long : T → ℕ) (beside : T →
       let fits : length xs + length ys ≤ longest → together ≡ bounded said (xs ++ ys) = λ h.
       cond-true (leb (long (said xs) + long (said ys)) longest) (Within (beside (said xs) (said ys))) Overlong (le-leb (long (said xs) + long (said ys)) longest (omega arith))
       ∙ ap Within (beside-said xs ys h)
-      ∙ sym (bounded-within said (xs ++ ys) (omega arith)) in
+      ∙ sym (bounded_within said (xs ++ ys) (omega arith)) in
       let passes : longest < length xs + length ys → together ≡ bounded said (xs ++ ys) = λ h.
       cond-false (leb (long (said xs) + long (said ys)) longest) (Within (beside (said xs) (said ys))) Overlong (lt-leb (long (said xs) + long (said ys)) longest (omega arith))
-      ∙ sym (bounded-over said (xs ++ ys) (omega arith)) in
+      ∙ sym (bounded_over said (xs ++ ys) (omega arith)) in
       ⊎_elim passes fits (cases_lt longest (length xs + length ys))
 
   -- The join of what is said of two texts is what is said of both, one behind the other.
-  pub join-said : (xs ys : List ℕ) → join-bounded long beside (bounded said xs) (bounded said ys) ≡ bounded said (xs ++ ys)
-  join-said xs ys =
-      let join = join-bounded long beside in
+  pub join_said : (xs ys : List ℕ) → join_bounded long beside (bounded said xs) (bounded said ys) ≡ bounded said (xs ++ ys)
+  join_said xs ys =
+      let join = join_bounded long beside in
       let whole = length-append xs ys in
-      ⊎_elim (λ h. ap (λ r. join r (bounded said ys)) (bounded-over said xs h) ∙ sym (bounded-over said (xs ++ ys) (omega arith)))
+      ⊎_elim (λ h. ap (λ r. join r (bounded said ys)) (bounded_over said xs h) ∙ sym (bounded_over said (xs ++ ys) (omega arith)))
       (λ h. ⊎_elim
-      (λ k. ap (join (bounded said xs)) (bounded-over said ys k) ∙ over-right long beside (bounded said xs) ∙ sym (bounded-over said (xs ++ ys) (omega arith)))
-      (λ k. ap (λ r. join r (bounded said ys)) (bounded-within said xs h) ∙ ap (join (Within (said xs))) (bounded-within said ys k) ∙ join-within xs ys)
+      (λ k. ap (join (bounded said xs)) (bounded_over said ys k) ∙ over_right long beside (bounded said xs) ∙ sym (bounded_over said (xs ++ ys) (omega arith)))
+      (λ k. ap (λ r. join r (bounded said ys)) (bounded_within said xs h) ∙ ap (join (Within (said xs))) (bounded_within said ys k) ∙ join_within xs ys)
       (cases_lt longest (length ys)))
       (cases_lt longest (length xs))

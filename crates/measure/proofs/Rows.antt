@@ -4,12 +4,12 @@ use Rattle.std.proofs.lemmas.List.FromFn.{length-map-range_with_len, get_or-map-
 use Rattle.std.proofs.lemmas.List.{length-set, get_or-set_same, get_or-set_other, get_or_default}
 use Rattle.std.proofs.lemmas.Bool.{cases_eq, cond-true, cond-false, lt-ltb, le-ltb}
 use Rattle.std.proofs.lemmas.Bool.Decides.{nat_tests}
-use Rattle.measure.specs.Walk.{rows, still, join-entries, entry_at, onward}
+use Rattle.measure.specs.Walk.{rows, still, join_entries, entry_at, onward}
 use Rattle.measure.specs.declared.walk_reading.Entry.{Entry}
 
-pub length-rows : (f : ℕ → Entry) → length (rows f) ≡ 64
+pub length_rows : (f : ℕ → Entry) → length (rows f) ≡ 64
 unfolding rows
-length-rows f = length-map-range_with_len f 0 64
+length_rows f = length-map-range_with_len f 0 64
 
 pub get_d_rows : (f : ℕ → Entry) (s : ℕ) (d : Entry) → s < 64 → get_or (rows f) s d ≡ f s
 unfolding rows
@@ -20,7 +20,7 @@ unfolding rows
 rows_all f xs d = fill_by_all f xs 64 d
 
 pub same_rows : (f g : ℕ → Entry) → ((s : ℕ) → s < 64 → f s ≡ g s) → rows f ≡ rows g
-same_rows f g same = rows_all g (rows f) (still 0) (length-rows f) (λ s h. get_d_rows f s (still 0) h ∙ same s h)
+same_rows f g same = rows_all g (rows f) (still 0) (length_rows f) (λ s h. get_d_rows f s (still 0) h ∙ same s h)
 
 -- The first n entries are written, by f, and the others are still by g.
 pub record Filled (f g : ℕ → Entry) (n : ℕ) (xs : List Entry) : Type 0 where
@@ -48,12 +48,12 @@ module _ (f g : ℕ → Entry) where
   }
 
   -- Where g is right from n on, the table is done.
-  pub filled-all : (n : ℕ) (xs : List Entry) (h : ℕ → Entry) → Filled f g n xs → ((s : ℕ) → s < 64 → cond (ltb s n) (f s) (g s) ≡ h s) → xs ≡ rows h
-  filled-all n xs h so_far right = rows_all h xs (still 0) so_far.long (λ s k. so_far.each s k ∙ right s k)
+  pub filled_all : (n : ℕ) (xs : List Entry) (h : ℕ → Entry) → Filled f g n xs → ((s : ℕ) → s < 64 → cond (ltb s n) (f s) (g s) ≡ h s) → xs ≡ rows h
+  filled_all n xs h so_far right = rows_all h xs (still 0) so_far.long (λ s k. so_far.each s k ∙ right s k)
 
 -- A read within a table is its entry.
-pub read-entry : (xs : List Entry) (s : ℕ) → length xs ≡ 64 → s < 64 → get_or xs s (still 0) ≡ entry_at xs s
-read-entry xs s long h = get_or_default xs s (still 0) (still s) (omega arith)
+pub read_entry : (xs : List Entry) (s : ℕ) → length xs ≡ 64 → s < 64 → get_or xs s (still 0) ≡ entry_at xs s
+read_entry xs s long h = get_or_default xs s (still 0) (still s) (omega arith)
 
-pub read-onward : (left right : List Entry) (s : ℕ) → length left ≡ 64 → s < 64 → join-entries (get_or left s (still 0)) (entry_at right (get_or left s (still 0)).end) ≡ onward left right s
-read-onward left right s long h = ap (λ e. join-entries e (entry_at right e.end)) (read-entry left s long h)
+pub read_onward : (left right : List Entry) (s : ℕ) → length left ≡ 64 → s < 64 → join_entries (get_or left s (still 0)) (entry_at right (get_or left s (still 0)).end) ≡ onward left right s
+read_onward left right s long h = ap (λ e. join_entries e (entry_at right e.end)) (read_entry left s long h)

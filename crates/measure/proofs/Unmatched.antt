@@ -8,121 +8,121 @@ use Rattle.automaton.specs.Walk.{walk}
 use Rattle.automaton.specs.Bracket.{bracket, role}
 use Rattle.automaton.specs.declared.role.Role.{Role}
 use Rattle.automaton.specs.declared.role.Role.TheVariants.{Plain, Opening, Closing}
-use Rattle.measure.specs.Unmatched.{opens, closes, openings-in, closings-in, unmatched-closings, unmatched-openings, Unmatched, CountedByDepth}
+use Rattle.measure.specs.Unmatched.{opens, closes, openings_in, closings_in, unmatched_closings, unmatched_openings, Unmatched, CountedByDepth}
 
-pub one-role : (r : Role) → opens r + closes r ≤ 1
-one-role Plain = omega arith
-one-role (Opening kind) = omega arith
-one-role (Closing kind) = omega arith
+pub one_role : (r : Role) → opens r + closes r ≤ 1
+one_role Plain = omega arith
+one_role (Opening kind) = omega arith
+one_role (Closing kind) = omega arith
 
 module _ (a : Automaton) where
-  pub openings-append : (s : ℕ) (xs ys : List ℕ) → openings-in a s (xs ++ ys) ≡ openings-in a s xs + openings-in a (walk a s xs) ys
-  openings-append s [] ys = omega arith
-  openings-append s (b ∷ xs) ys = let more = openings-append (a.step s b) xs ys in omega arith
+  pub openings_append : (s : ℕ) (xs ys : List ℕ) → openings_in a s (xs ++ ys) ≡ openings_in a s xs + openings_in a (walk a s xs) ys
+  openings_append s [] ys = omega arith
+  openings_append s (b ∷ xs) ys = let more = openings_append (a.step s b) xs ys in omega arith
 
-  pub closings-append : (s : ℕ) (xs ys : List ℕ) → closings-in a s (xs ++ ys) ≡ closings-in a s xs + closings-in a (walk a s xs) ys
-  closings-append s [] ys = omega arith
-  closings-append s (b ∷ xs) ys = let more = closings-append (a.step s b) xs ys in omega arith
+  pub closings_append : (s : ℕ) (xs ys : List ℕ) → closings_in a s (xs ++ ys) ≡ closings_in a s xs + closings_in a (walk a s xs) ys
+  closings_append s [] ys = omega arith
+  closings_append s (b ∷ xs) ys = let more = closings_append (a.step s b) xs ys in omega arith
 
   -- Closings lead by no more than those that are unmatched.
-  pub leads : (s : ℕ) (xs : List ℕ) → closings-in a s xs ≤ openings-in a s xs + unmatched-closings a s xs
+  pub leads : (s : ℕ) (xs : List ℕ) → closings_in a s xs ≤ openings_in a s xs + unmatched_closings a s xs
   leads s [] = omega arith
   leads s (b ∷ xs) = let more = leads (a.step s b) xs in omega arith
 
-  pub unmatched-some : (s : ℕ) (xs : List ℕ) → unmatched-closings a s xs ≤ closings-in a s xs
-  unmatched-some s [] = omega arith
-  unmatched-some s (b ∷ xs) = let more = unmatched-some (a.step s b) xs in omega arith
+  pub unmatched_some : (s : ℕ) (xs : List ℕ) → unmatched_closings a s xs ≤ closings_in a s xs
+  unmatched_some s [] = omega arith
+  unmatched_some s (b ∷ xs) = let more = unmatched_some (a.step s b) xs in omega arith
 
-  brackets-few : (s : ℕ) (xs : List ℕ) → openings-in a s xs + closings-in a s xs ≤ length xs
-  brackets-few s [] = omega arith
-  brackets-few s (b ∷ xs) = let more = brackets-few (a.step s b) xs in omega (arith, one-role (role a s b))
+  brackets_few : (s : ℕ) (xs : List ℕ) → openings_in a s xs + closings_in a s xs ≤ length xs
+  brackets_few s [] = omega arith
+  brackets_few s (b ∷ xs) = let more = brackets_few (a.step s b) xs in omega (arith, one_role (role a s b))
 
-  pub unmatched-few : (s : ℕ) (xs : List ℕ) → unmatched-closings a s xs + unmatched-openings a s xs ≤ length xs
-  unmatched-few s xs = omega (arith, unmatched-some s xs, brackets-few s xs, leads s xs)
+  pub unmatched_few : (s : ℕ) (xs : List ℕ) → unmatched_closings a s xs + unmatched_openings a s xs ≤ length xs
+  unmatched_few s xs = omega (arith, unmatched_some s xs, brackets_few s xs, leads s xs)
 
   -- An opening that the first run leaves takes a closing that the second leaves.
-  pub unmatched-closings-append : (s : ℕ) (xs ys : List ℕ) → unmatched-closings a s (xs ++ ys) ≡ unmatched-closings a s xs + (unmatched-closings a (walk a s xs) ys - unmatched-openings a s xs)
-  unmatched-closings-append s [] ys = omega arith
-  unmatched-closings-append s (b ∷ xs) ys =
+  pub unmatched_closings_append : (s : ℕ) (xs ys : List ℕ) → unmatched_closings a s (xs ++ ys) ≡ unmatched_closings a s xs + (unmatched_closings a (walk a s xs) ys - unmatched_openings a s xs)
+  unmatched_closings_append s [] ys = omega arith
+  unmatched_closings_append s (b ∷ xs) ys =
       let t = a.step s b in
-      let more = unmatched-closings-append t xs ys in
+      let more = unmatched_closings_append t xs ys in
       let lead = leads t xs in
       omega arith
 
-  pub unmatched-openings-append : (s : ℕ) (xs ys : List ℕ) → unmatched-openings a s (xs ++ ys) ≡ unmatched-openings a (walk a s xs) ys + (unmatched-openings a s xs - unmatched-closings a (walk a s xs) ys)
-  unmatched-openings-append s xs ys =
-      omega (arith, unmatched-closings-append s xs ys, openings-append s xs ys, closings-append s xs ys, leads s xs, leads (walk a s xs) ys)
+  pub unmatched_openings_append : (s : ℕ) (xs ys : List ℕ) → unmatched_openings a s (xs ++ ys) ≡ unmatched_openings a (walk a s xs) ys + (unmatched_openings a s xs - unmatched_closings a (walk a s xs) ys)
+  unmatched_openings_append s xs ys =
+      omega (arith, unmatched_closings_append s xs ys, openings_append s xs ys, closings_append s xs ys, leads s xs, leads (walk a s xs) ys)
 
-  reach : (s : ℕ) (xs : List ℕ) → (place : ℕ) × (place ≤ length xs) × (closings-in a s (take place xs) ≡ openings-in a s (take place xs) + unmatched-closings a s xs)
+  reach : (s : ℕ) (xs : List ℕ) → (place : ℕ) × (place ≤ length xs) × (closings_in a s (take place xs) ≡ openings_in a s (take place xs) + unmatched_closings a s xs)
   reach s [] = (0, omega arith, refl)
   reach s (b ∷ xs) =
       let t = a.step s b in
       let more = reach t xs in
       let c = closes (role a s b) in
       let o = opens (role a s b) in
-      ⊎_elim (λ h. (0, omega arith, omega arith)) (λ h. (suc more.0, omega arith, omega arith)) (cases_lt (c + unmatched-closings a t xs) o)
+      ⊎_elim (λ h. (0, omega arith, omega arith)) (λ h. (suc more.0, omega arith, omega arith)) (cases_lt (c + unmatched_closings a t xs) o)
 
-  pub unmatched-said : (s : ℕ) (xs : List ℕ) → Unmatched a s xs (unmatched-closings a s xs) (unmatched-openings a s xs)
-  unmatched-said s xs = record {
-    never-more = λ place.
+  pub unmatched_said : (s : ℕ) (xs : List ℕ) → Unmatched a s xs (unmatched_closings a s xs) (unmatched_openings a s xs)
+  unmatched_said s xs = record {
+    never_more = λ place.
         let front = take place xs in
-        let more = ap (unmatched-closings a s) (sym (take-append-drop place xs)) ∙ unmatched-closings-append s front (drop place xs) in
+        let more = ap (unmatched_closings a s) (sym (take-append-drop place xs)) ∙ unmatched_closings_append s front (drop place xs) in
         omega (arith, leads s front);
     reached = reach s xs;
     left_open = omega (arith, leads s xs);
   }
 
-  unmatched-alone : (s : ℕ) (xs : List ℕ) (closings openings : ℕ) → Unmatched a s xs closings openings → (closings ≡ unmatched-closings a s xs) × (openings ≡ unmatched-openings a s xs)
-  unmatched-alone s xs closings openings other =
-      let own = unmatched-said s xs in
-      let at_most = own.never-more other.reached.0 in
-      let at_least_lem = other.never-more own.reached.0 in
-      let same : closings ≡ unmatched-closings a s xs = omega (arith, other.reached.2, own.reached.2) in
+  unmatched_alone : (s : ℕ) (xs : List ℕ) (closings openings : ℕ) → Unmatched a s xs closings openings → (closings ≡ unmatched_closings a s xs) × (openings ≡ unmatched_openings a s xs)
+  unmatched_alone s xs closings openings other =
+      let own = unmatched_said s xs in
+      let at_most = own.never_more other.reached.0 in
+      let at_least_lem = other.never_more own.reached.0 in
+      let same : closings ≡ unmatched_closings a s xs = omega (arith, other.reached.2, own.reached.2) in
       (same, omega (arith, other.left_open, own.left_open))
 
-  pub counted-by-depth : CountedByDepth a
-  counted-by-depth = record { right = unmatched-said; alone = unmatched-alone }
+  pub counted_by_depth : CountedByDepth a
+  counted_by_depth = record { right = unmatched_said; alone = unmatched_alone }
 
 -- From a state that is none of the grammar's, nothing is a bracket.
 module _ (a : Automaton) (lawful : Lawful a) where
-  outside-plain : (s b : ℕ) → a.count ≤ s → role a s b ≡ Plain
-  outside-plain s b h = cond-false (eqb (a.class s b) mark) (bracket b) Plain (ne_eqb (a.class s b) mark (λ e. omega (arith, lawful.outside-blank s b h)))
+  outside_plain : (s b : ℕ) → a.count ≤ s → role a s b ≡ Plain
+  outside_plain s b h = cond-false (eqb (a.class s b) mark) (bracket b) Plain (ne_eqb (a.class s b) mark (λ e. omega (arith, lawful.outside_blank s b h)))
 
-  pub outside-walk : (s : ℕ) (xs : List ℕ) → a.count ≤ s → walk a s xs ≡ s
-  outside-walk s [] h = refl
-  outside-walk s (b ∷ xs) h = ap (λ t. walk a t xs) (lawful.outside-stays s b h) ∙ outside-walk s xs h
+  pub outside_walk : (s : ℕ) (xs : List ℕ) → a.count ≤ s → walk a s xs ≡ s
+  outside_walk s [] h = refl
+  outside_walk s (b ∷ xs) h = ap (λ t. walk a t xs) (lawful.outside_stays s b h) ∙ outside_walk s xs h
 
-  pub outside-openings : (s : ℕ) (xs : List ℕ) → a.count ≤ s → openings-in a s xs ≡ 0
-  outside-openings s [] h = refl
-  outside-openings s (b ∷ xs) h =
-      let plain = ap opens (outside-plain s b h) in
-      let more = ap (λ t. openings-in a t xs) (lawful.outside-stays s b h) ∙ outside-openings s xs h in
+  pub outside_openings : (s : ℕ) (xs : List ℕ) → a.count ≤ s → openings_in a s xs ≡ 0
+  outside_openings s [] h = refl
+  outside_openings s (b ∷ xs) h =
+      let plain = ap opens (outside_plain s b h) in
+      let more = ap (λ t. openings_in a t xs) (lawful.outside_stays s b h) ∙ outside_openings s xs h in
       omega arith
 
-  pub outside-closings : (s : ℕ) (xs : List ℕ) → a.count ≤ s → closings-in a s xs ≡ 0
-  outside-closings s [] h = refl
-  outside-closings s (b ∷ xs) h =
-      let plain = ap closes (outside-plain s b h) in
-      let more = ap (λ t. closings-in a t xs) (lawful.outside-stays s b h) ∙ outside-closings s xs h in
+  pub outside_closings : (s : ℕ) (xs : List ℕ) → a.count ≤ s → closings_in a s xs ≡ 0
+  outside_closings s [] h = refl
+  outside_closings s (b ∷ xs) h =
+      let plain = ap closes (outside_plain s b h) in
+      let more = ap (λ t. closings_in a t xs) (lawful.outside_stays s b h) ∙ outside_closings s xs h in
       omega arith
 
   -- A walk that begins in a state of the grammar ends in one.
-  pub walk-below : (s : ℕ) (xs : List ℕ) → s < a.count → walk a s xs < a.count
-  walk-below s [] h = h
-  walk-below s (b ∷ xs) h = walk-below (a.step s b) xs (lawful.step-below s b h)
+  pub walk_below : (s : ℕ) (xs : List ℕ) → s < a.count → walk a s xs < a.count
+  walk_below s [] h = h
+  walk_below s (b ∷ xs) h = walk_below (a.step s b) xs (lawful.step_below s b h)
 
 -- One byte more: a closing takes an opening that is left, or is itself left; an opening is left.
 module _ (a : Automaton) (s : ℕ) (xs : List ℕ) (i : ℕ) (within : i < length xs) where
-  pub closings-more : unmatched-closings a s (take (i + 1) xs) ≡ unmatched-closings a s (take i xs) + (closes (role a (walk a s (take i xs)) (get_or xs i 0)) - unmatched-openings a s (take i xs))
-  closings-more =
+  pub closings_more : unmatched_closings a s (take (i + 1) xs) ≡ unmatched_closings a s (take i xs) + (closes (role a (walk a s (take i xs)) (get_or xs i 0)) - unmatched_openings a s (take i xs))
+  closings_more =
       let front = take i xs in
       let b = get_or xs i 0 in
-      let more = ap (unmatched-closings a s) (take_more xs i 0 within) ∙ unmatched-closings-append a s front (b ∷ []) in
-      omega (arith, one-role (role a (walk a s front) b))
+      let more = ap (unmatched_closings a s) (take_more xs i 0 within) ∙ unmatched_closings_append a s front (b ∷ []) in
+      omega (arith, one_role (role a (walk a s front) b))
 
-  pub openings-more : unmatched-openings a s (take (i + 1) xs) ≡ opens (role a (walk a s (take i xs)) (get_or xs i 0)) + (unmatched-openings a s (take i xs) - closes (role a (walk a s (take i xs)) (get_or xs i 0)))
-  openings-more =
+  pub openings_more : unmatched_openings a s (take (i + 1) xs) ≡ opens (role a (walk a s (take i xs)) (get_or xs i 0)) + (unmatched_openings a s (take i xs) - closes (role a (walk a s (take i xs)) (get_or xs i 0)))
+  openings_more =
       let front = take i xs in
       let b = get_or xs i 0 in
-      let more = ap (unmatched-openings a s) (take_more xs i 0 within) ∙ unmatched-openings-append a s front (b ∷ []) in
-      omega (arith, one-role (role a (walk a s front) b))
+      let more = ap (unmatched_openings a s) (take_more xs i 0 within) ∙ unmatched_openings_append a s front (b ∷ []) in
+      omega (arith, one_role (role a (walk a s front) b))

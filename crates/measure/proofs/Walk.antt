@@ -5,31 +5,31 @@ use Rattle.std.proofs.lemmas.Bool.{cases_lt, cond-true, cond-false, lt-ltb, le-l
 use Rattle.automaton.specs.Automaton.{Automaton, Lawful as LawfulGrammar}
 use Rattle.automaton.specs.Bracket.{role}
 use Rattle.automaton.specs.Walk.{walk}
-use Rattle.automaton.proofs.Walk.{walk-append}
+use Rattle.automaton.proofs.Walk.{walk_append}
 use Rattle.measure.specs.Measure.{reading, Lawful}
 use Rattle.measure.specs.Bounded.{longest, bounded, capped}
-use Rattle.measure.specs.Unmatched.{opens, closes, unmatched-closings, unmatched-openings}
-use Rattle.measure.specs.Walk.{entry, rows, passage, walk-reading, still, over-byte, join-entries, entry_at, onward, through, join-passages, walk-measure, Tells, EntriesTell}
+use Rattle.measure.specs.Unmatched.{opens, closes, unmatched_closings, unmatched_openings}
+use Rattle.measure.specs.Walk.{entry, rows, passage, walk_reading, still, over_byte, join_entries, entry_at, onward, through, join_passages, walk_measure, Tells, EntriesTell}
 use Rattle.measure.specs.declared.bounded_reading.Bounded.{Bounded}
 use Rattle.measure.specs.declared.bounded_reading.Bounded.TheVariants.{Within, Overlong}
 use Rattle.measure.specs.declared.walk_reading.Entry.{Entry}
 use Rattle.measure.specs.declared.walk_reading.Passage.{Passage}
-use Rattle.measure.proofs.Measure.{reading-whole, lawful-whole}
-use Rattle.measure.proofs.Bounded.{bounded-within, bounded-over, join-said}
-use Rattle.measure.proofs.Rows.{length-rows, get_d_rows, same_rows}
-use Rattle.measure.proofs.Unmatched.{one-role, unmatched-some, unmatched-few, unmatched-closings-append, unmatched-openings-append, unmatched-said, outside-walk, outside-openings, outside-closings, walk-below}
+use Rattle.measure.proofs.Measure.{reading_whole, lawful_whole}
+use Rattle.measure.proofs.Bounded.{bounded_within, bounded_over, join_said}
+use Rattle.measure.proofs.Rows.{length_rows, get_d_rows, same_rows}
+use Rattle.measure.proofs.Unmatched.{one_role, unmatched_some, unmatched_few, unmatched_closings_append, unmatched_openings_append, unmatched_said, outside_walk, outside_openings, outside_closings, walk_below}
 
 abbrev pub entry_of : ℕ → ℕ → ℕ → Entry
 entry_of u c o = record { end = u; closings = c; openings = o }
 
-pub same-entry : {u u' c c' o o' : ℕ} → u ≡ u' → c ≡ c' → o ≡ o' → entry_of u c o ≡ entry_of u' c' o'
-same-entry {u} {u'} {c} {c'} {o} {o'} e f g = ap (λ x. entry_of x c o) e ∙ ap (λ x. entry_of u' x o) f ∙ ap (entry_of u' c') g
+pub same_entry : {u u' c c' o o' : ℕ} → u ≡ u' → c ≡ c' → o ≡ o' → entry_of u c o ≡ entry_of u' c' o'
+same_entry {u} {u'} {c} {c'} {o} {o'} e f g = ap (λ x. entry_of x c o) e ∙ ap (λ x. entry_of u' x o) f ∙ ap (entry_of u' c') g
 
-abbrev pub passage-of : ℕ → List Entry → Passage
-passage-of l entries = record { length = l; entries = entries }
+abbrev pub passage_of : ℕ → List Entry → Passage
+passage_of l entries = record { length = l; entries = entries }
 
-pub same-passage : {l l' : ℕ} {e e' : List Entry} → l ≡ l' → e ≡ e' → passage-of l e ≡ passage-of l' e'
-same-passage {l} {l'} {e} {e'} f g = ap (λ x. passage-of x e) f ∙ ap (passage-of l') g
+pub same_passage : {l l' : ℕ} {e e' : List Entry} → l ≡ l' → e ≡ e' → passage_of l e ≡ passage_of l' e'
+same_passage {l} {l'} {e} {e'} f g = ap (λ x. passage_of x e) f ∙ ap (passage_of l') g
 
 -- What openings leave of closings is the same by the lesser of the two.
 less : (b c : ℕ) → c - min b c ≡ c - b
@@ -43,95 +43,95 @@ uncapped n h = omega arith
 
 module _ (a : Automaton) where
   -- Two walks join to the walk through both texts.
-  pub join-walks : (s : ℕ) (xs ys : List ℕ) → length xs + length ys ≤ longest → join-entries (entry a s xs) (entry a (walk a s xs) ys) ≡ entry a s (xs ++ ys)
-  join-walks s xs ys h =
+  pub join_walks : (s : ℕ) (xs ys : List ℕ) → length xs + length ys ≤ longest → join_entries (entry a s xs) (entry a (walk a s xs) ys) ≡ entry a s (xs ++ ys)
+  join_walks s xs ys h =
       let t = walk a s xs in
-      let b = unmatched-openings a s xs in
-      let c = unmatched-closings a t ys in
+      let b = unmatched_openings a s xs in
+      let c = unmatched_closings a t ys in
       let long = length-append xs ys in
-      let few = unmatched-few a s (xs ++ ys) in
-      let closed = unmatched-closings-append a s xs ys in
-      let opened = unmatched-openings-append a s xs ys in
-      same-entry (sym (walk-append a s xs ys))
-      (ap (λ n. capped (unmatched-closings a s xs + n)) (less b c) ∙ ap capped (sym closed) ∙ uncapped (unmatched-closings a s (xs ++ ys)) (omega arith))
-      (ap (λ n. capped (unmatched-openings a t ys + n)) (less' b c) ∙ ap capped (sym opened) ∙ uncapped (unmatched-openings a s (xs ++ ys)) (omega arith))
+      let few = unmatched_few a s (xs ++ ys) in
+      let closed = unmatched_closings_append a s xs ys in
+      let opened = unmatched_openings_append a s xs ys in
+      same_entry (sym (walk_append a s xs ys))
+      (ap (λ n. capped (unmatched_closings a s xs + n)) (less b c) ∙ ap capped (sym closed) ∙ uncapped (unmatched_closings a s (xs ++ ys)) (omega arith))
+      (ap (λ n. capped (unmatched_openings a t ys + n)) (less' b c) ∙ ap capped (sym opened) ∙ uncapped (unmatched_openings a s (xs ++ ys)) (omega arith))
 
-  one_entry : (b s : ℕ) → over-byte a b s ≡ entry a s (b ∷ [])
-  one_entry b s = same-entry refl (omega (arith, one-role (role a s b))) (omega (arith, one-role (role a s b)))
+  one_entry : (b s : ℕ) → over_byte a b s ≡ entry a s (b ∷ [])
+  one_entry b s = same_entry refl (omega (arith, one_role (role a s b))) (omega (arith, one_role (role a s b)))
 
-  pub one_byte : (b : ℕ) → (walk-measure a).single b ≡ walk-reading a (b ∷ [])
-  one_byte b = ap (λ l. Within (record { length = 1; entries = l })) (same_rows (over-byte a b) (λ s. entry a s (b ∷ [])) (λ s h. one_entry b s))
+  pub one_byte : (b : ℕ) → (walk_measure a).single b ≡ walk_reading a (b ∷ [])
+  one_byte b = ap (λ l. Within (record { length = 1; entries = l })) (same_rows (over_byte a b) (λ s. entry a s (b ∷ [])) (λ s h. one_entry b s))
 
-  no_byte : (walk-measure a).empty ≡ walk-reading a []
+  no_byte : (walk_measure a).empty ≡ walk_reading a []
   no_byte = refl
 
   module _ (lawful : LawfulGrammar a) where
-    pub outside-entry : (s : ℕ) (xs : List ℕ) → a.count ≤ s → entry a s xs ≡ still s
-    outside-entry s xs h =
-        let o = outside-openings a lawful s xs h in
-        let c = outside-closings a lawful s xs h in
-        same-entry (outside-walk a lawful s xs h) (omega (arith, unmatched-some a s xs)) (omega (arith, unmatched-some a s xs))
+    pub outside_entry : (s : ℕ) (xs : List ℕ) → a.count ≤ s → entry a s xs ≡ still s
+    outside_entry s xs h =
+        let o = outside_openings a lawful s xs h in
+        let c = outside_closings a lawful s xs h in
+        same_entry (outside_walk a lawful s xs h) (omega (arith, unmatched_some a s xs)) (omega (arith, unmatched_some a s xs))
 
     -- Only the grammar's own states need a walk.
-    pub walk-or-still : (n s : ℕ) (xs : List ℕ) → n ≡ a.count → cond (ltb s n) (entry a s xs) (still s) ≡ entry a s xs
-    walk-or-still n s xs e =
-        ⊎_elim (λ h. cond-true (ltb s n) (entry a s xs) (still s) (lt-ltb s n h)) (λ h. cond-false (ltb s n) (entry a s xs) (still s) (le-ltb s n h) ∙ sym (outside-entry s xs (omega arith)))
+    pub walk_or_still : (n s : ℕ) (xs : List ℕ) → n ≡ a.count → cond (ltb s n) (entry a s xs) (still s) ≡ entry a s xs
+    walk_or_still n s xs e =
+        ⊎_elim (λ h. cond-true (ltb s n) (entry a s xs) (still s) (lt-ltb s n h)) (λ h. cond-false (ltb s n) (entry a s xs) (still s) (le-ltb s n h) ∙ sym (outside_entry s xs (omega arith)))
         (cases_lt s n)
 
     -- The state behind a walk that begins below 64 lies there too.
-    ends-under : (s : ℕ) (xs : List ℕ) → s < 64 → walk a s xs < 64
-    ends-under s xs h =
-        ⊎_elim (λ k. omega (arith, walk-below a lawful s xs k, lawful.few-states)) (λ k. let e = outside-walk a lawful s xs k in omega arith)
+    ends_under : (s : ℕ) (xs : List ℕ) → s < 64 → walk a s xs < 64
+    ends_under s xs h =
+        ⊎_elim (λ k. omega (arith, walk_below a lawful s xs k, lawful.few_states)) (λ k. let e = outside_walk a lawful s xs k in omega arith)
         (cases_lt s a.count)
 
-    join-rows : (xs ys : List ℕ) → length xs + length ys ≤ longest → (s : ℕ) → s < 64 → through a.count (passage a xs).entries (passage a ys).entries s ≡ entry a s (xs ++ ys)
-    join-rows xs ys h s k =
+    join_rows : (xs ys : List ℕ) → length xs + length ys ≤ longest → (s : ℕ) → s < 64 → through a.count (passage a xs).entries (passage a ys).entries s ≡ entry a s (xs ++ ys)
+    join_rows xs ys h s k =
         let left = (passage a xs).entries in
         let right = (passage a ys).entries in
         let joined = onward left right s in
         let t = walk a s xs in
         let first : entry_at left s ≡ entry a s xs = get_d_rows (λ s. entry a s xs) s (still s) k in
-        let second : entry_at right t ≡ entry a t ys = get_d_rows (λ s. entry a s ys) t (still t) (ends-under s xs k) in
+        let second : entry_at right t ≡ entry a t ys = get_d_rows (λ s. entry a s ys) t (still t) (ends_under s xs k) in
         ⊎_elim (λ under.
         cond-true (ltb s a.count) joined (entry_at left s) (lt-ltb s a.count under)
-        ∙ ap (λ e. join-entries e (entry_at right e.end)) first
-        ∙ ap (join-entries (entry a s xs)) second
-        ∙ join-walks s xs ys h)
+        ∙ ap (λ e. join_entries e (entry_at right e.end)) first
+        ∙ ap (join_entries (entry a s xs)) second
+        ∙ join_walks s xs ys h)
         (λ out.
         cond-false (ltb s a.count) joined (entry_at left s) (le-ltb s a.count out)
         ∙ first
-        ∙ outside-entry s xs out
-        ∙ sym (outside-entry s (xs ++ ys) out))
+        ∙ outside_entry s xs out
+        ∙ sym (outside_entry s (xs ++ ys) out))
         (cases_lt s a.count)
 
-    join-texts : (xs ys : List ℕ) → length xs + length ys ≤ longest → join-passages a.count (passage a xs) (passage a ys) ≡ passage a (xs ++ ys)
-    join-texts xs ys h =
-        same-passage (sym (length-append xs ys)) (same_rows (through a.count (passage a xs).entries (passage a ys).entries) (λ s. entry a s (xs ++ ys)) (join-rows xs ys h))
+    join_texts : (xs ys : List ℕ) → length xs + length ys ≤ longest → join_passages a.count (passage a xs) (passage a ys) ≡ passage a (xs ++ ys)
+    join_texts xs ys h =
+        same_passage (sym (length-append xs ys)) (same_rows (through a.count (passage a xs).entries (passage a ys).entries) (λ s. entry a s (xs ++ ys)) (join_rows xs ys h))
 
-    join-readings : (xs ys : List ℕ) → (walk-measure a).join (walk-reading a xs) (walk-reading a ys) ≡ walk-reading a (xs ++ ys)
-    join-readings = join-said (passage a) (λ p. p.length) (join-passages a.count) (λ xs. refl) join-texts
+    join_readings : (xs ys : List ℕ) → (walk_measure a).join (walk_reading a xs) (walk_reading a ys) ≡ walk_reading a (xs ++ ys)
+    join_readings = join_said (passage a) (λ p. p.length) (join_passages a.count) (λ xs. refl) join_texts
 
-    pub walk_is : (text : List ℕ) → reading (walk-measure a) text ≡ walk-reading a text
-    walk_is = reading-whole (walk-measure a) (walk-reading a) no_byte one_byte join-readings
+    pub walk_is : (text : List ℕ) → reading (walk_measure a) text ≡ walk_reading a text
+    walk_is = reading_whole (walk_measure a) (walk_reading a) no_byte one_byte join_readings
 
-    pub walk-lawful : Lawful (walk-measure a)
-    walk-lawful = lawful-whole (walk-measure a) (walk-reading a) no_byte one_byte join-readings
+    pub walk_lawful : Lawful (walk_measure a)
+    walk_lawful = lawful_whole (walk_measure a) (walk_reading a) no_byte one_byte join_readings
 
-    entry-tells : (text : List ℕ) (s : ℕ) → s < 64 → Tells a text s (entry a s text)
-    entry-tells text s h = record {
+    entry_tells : (text : List ℕ) (s : ℕ) → s < 64 → Tells a text s (entry a s text)
+    entry_tells text s h = record {
       ends = refl;
-      unmatched = unmatched-said a s text;
-      ends-below = ends-under s text h;
-      few-brackets = unmatched-few a s text;
-      outside = outside-entry s text;
+      unmatched = unmatched_said a s text;
+      ends_below = ends_under s text h;
+      few_brackets = unmatched_few a s text;
+      outside = outside_entry s text;
     }
 
-    pub entries-tell : EntriesTell a
-    entries-tell text p e =
+    pub entries_tell : EntriesTell a
+    entries_tell text p e =
         let told = walk_is text in
-        ⊎_elim (λ h. let over = bounded-over (passage a) text h in let z : ◌≡◌ {A = ℕ} 0 1 = cc in absurd (omega arith))
-        (λ h. let within = bounded-within (passage a) text h in
+        ⊎_elim (λ h. let over = bounded_over (passage a) text h in let z : ◌≡◌ {A = ℕ} 0 1 = cc in absurd (omega arith))
+        (λ h. let within = bounded_within (passage a) text h in
         let same : passage a text ≡ p = cc in
         let Said : Passage → Type 0 = λ q. (q.length ≡ length text) × (length q.entries ≡ 64) × ((s : ℕ) → s < 64 → Tells a text s (entry_at q.entries s)) in
-        subst Said same (refl, length-rows (λ s. entry a s text), λ s k. subst (Tells a text s) (sym (get_d_rows (λ s. entry a s text) s (still s) k)) (entry-tells text s k)))
+        subst Said same (refl, length_rows (λ s. entry a s text), λ s k. subst (Tells a text s) (sym (get_d_rows (λ s. entry a s text) s (still s) k)) (entry_tells text s k)))
         (cases_lt longest (length text))

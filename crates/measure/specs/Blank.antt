@@ -3,5 +3,5 @@
 use Rattle.std.specs.Prelude.{ℕ}
 use Rattle.measure.specs.Measure.{Measure}
 
-abbrev pub blank-measure : Measure (Unit {0})
-blank-measure = record { empty = tt; single = λ b. tt; join = λ r q. tt }
+abbrev pub blank_measure : Measure (Unit {0})
+blank_measure = record { empty = tt; single = λ b. tt; join = λ r q. tt }

@@ -13,10 +13,10 @@ abbrev pub bounded : {T : Type 0} → (List ℕ → T) → List ℕ → Bounded 
 bounded said text = cond (nat_le (length text) longest) (Within (said text)) Overlong
 
 -- The join of two, from the length that a T has and from the join within the length.
-abbrev pub join-bounded : {T : Type 0} → (T → ℕ) → (T → T → T) → Bounded T → Bounded T → Bounded T
-join-bounded long beside Overlong q = Overlong
-join-bounded long beside (Within p) Overlong = Overlong
-join-bounded long beside (Within p) (Within q) = cond (nat_le (long p + long q) longest) (Within (beside p q)) Overlong
+abbrev pub join_bounded : {T : Type 0} → (T → ℕ) → (T → T → T) → Bounded T → Bounded T → Bounded T
+join_bounded long beside Overlong q = Overlong
+join_bounded long beside (Within p) Overlong = Overlong
+join_bounded long beside (Within p) (Within q) = cond (nat_le (long p + long q) longest) (Within (beside p q)) Overlong
 
 -- The counts of a text never come near this. Where values that are no text's reading are joined, a count stops here.
 abbrev pub capped : ℕ → ℕ

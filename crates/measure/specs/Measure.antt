@@ -22,7 +22,7 @@ pub record Lawful {R : Type 0} (μ : Measure R) : Type 0 where
   pub empty_left : (xs : List ℕ) → μ.join μ.empty (reading μ xs) ≡ reading μ xs
   pub empty_right : (xs : List ℕ) → μ.join (reading μ xs) μ.empty ≡ reading μ xs
   -- a byte's reading is that of the text which it makes alone
-  pub single-alone : (b : ℕ) → μ.join (μ.single b) μ.empty ≡ μ.single b
+  pub single_alone : (b : ℕ) → μ.join (μ.single b) μ.empty ≡ μ.single b
 
 -- What follows: the reading of two texts, one behind the other, is the join of their readings.
 abbrev pub JoinsTexts : {R : Type 0} → Measure R → Type 0

@@ -2,52 +2,52 @@
 -- The place behind a text stands on the line that `line-ends` counts, at the column that `units` counts.
 use Rattle.std.specs.Prelude.{◌≡◌, ℕ, ◌+◌, Bool, cond, ◌&&◌, List, [], ◌∷◌, length, ◌==◌, nat_le}
 use Rattle.measure.specs.Measure.{Measure, reading}
-use Rattle.measure.specs.Bounded.{bounded, join-bounded, capped}
+use Rattle.measure.specs.Bounded.{bounded, join_bounded, capped}
 use Rattle.measure.specs.declared.bounded_reading.Bounded.{Bounded}
 use Rattle.measure.specs.declared.bounded_reading.Bounded.TheVariants.{Within}
 use Rattle.measure.specs.declared.place_reading.Extent.{Extent}
 
 -- The byte that ends a line. No other definition knows it.
-abbrev pub ends-line : ℕ → Bool
-ends-line b = b == 0x0A
+abbrev pub ends_line : ℕ → Bool
+ends_line b = b == 0x0A
 
 -- The UTF-16 units that a byte stands for. A character is counted at its first byte: those that go on have none,
 -- and the first of four counts two.
 abbrev pub width : ℕ → ℕ
-width b = cond (ends-line b) 0 (cond (nat_le 0x80 b && nat_le b 0xBF) 0 (cond (nat_le 0xF0 b) 2 1))
+width b = cond (ends_line b) 0 (cond (nat_le 0x80 b && nat_le b 0xBF) 0 (cond (nat_le 0xF0 b) 2 1))
 
 -- The line ends of a text.
-abbrev pub line-ends : List ℕ → ℕ
-line-ends [] = 0
-line-ends (b ∷ bs) = cond (ends-line b) 1 0 + line-ends bs
+abbrev pub line_ends : List ℕ → ℕ
+line_ends [] = 0
+line_ends (b ∷ bs) = cond (ends_line b) 1 0 + line_ends bs
 
 -- The units of its last line: a byte counts if no line ends at it or behind it.
 abbrev pub units : List ℕ → ℕ
 units [] = 0
-units (b ∷ bs) = cond (line-ends (b ∷ bs) == 0) (width b) 0 + units bs
+units (b ∷ bs) = cond (line_ends (b ∷ bs) == 0) (width b) 0 + units bs
 
 -- What the meter says of a text.
 abbrev pub extent : List ℕ → Extent
-extent text = record { length = length text; lines = line-ends text; units = units text }
+extent text = record { length = length text; lines = line_ends text; units = units text }
 
-abbrev pub place-reading : List ℕ → Bounded Extent
-place-reading = bounded extent
+abbrev pub place_reading : List ℕ → Bounded Extent
+place_reading = bounded extent
 
 -- One behind the other: a line end on the right cuts off the units of the left.
-abbrev pub join-extents : Extent → Extent → Extent
-join-extents p q = record {
+abbrev pub join_extents : Extent → Extent → Extent
+join_extents p q = record {
   length = p.length + q.length;
   lines = capped (p.lines + q.lines);
   units = cond (q.lines == 0) (capped (p.units + q.units)) q.units;
 }
 
-abbrev pub place-measure : Measure (Bounded Extent)
-place-measure = record {
+abbrev pub place_measure : Measure (Bounded Extent)
+place_measure = record {
   empty = Within (record { length = 0; lines = 0; units = 0 });
-  single = λ b. Within (record { length = 1; lines = cond (ends-line b) 1 0; units = width b });
-  join = join-bounded (λ p. p.length) join-extents;
+  single = λ b. Within (record { length = 1; lines = cond (ends_line b) 1 0; units = width b });
+  join = join_bounded (λ p. p.length) join_extents;
 }
 
 -- The reading of every text is what is said of it above.
 abbrev pub PlaceReadsPosition : Type 0
-PlaceReadsPosition = (text : List ℕ) → reading place-measure text ≡ place-reading text
+PlaceReadsPosition = (text : List ℕ) → reading place_measure text ≡ place_reading text

@@ -1,7 +1,7 @@
 // Blank: a meter that tells nothing.
 ghost use Rattle.std.specs.Prelude.{◌≡◌};
-ghost use Rattle.measure.specs.Blank.{blank-measure};
-ghost use Rattle.measure.proofs.Blank.{blank-lawful};
+ghost use Rattle.measure.specs.Blank.{blank_measure};
+ghost use Rattle.measure.proofs.Blank.{blank_lawful};
 
 use crate::interface::Meter;
 
@@ -11,9 +11,9 @@ pub struct Blank;
 impl Meter for Blank {
     type Reading = ();
 
-    ghost scale = { λ _. blank-measure };
+    ghost scale = { λ _. blank_measure };
 
-    ghost lawful = { λ _. blank-lawful };
+    ghost lawful = { λ _. blank_lawful };
 
     fn empty(&self) -> () {}
 

@@ -1,4 +1,7 @@
 // What measures bytes: the interface of a meter, the blank meter, places, and two meters as one.
+
+#![tactic(auto)]
+
 pub mod blank_meter;
 pub mod interface;
 pub mod limit;

@@ -1,7 +1,7 @@
 // Pair: two meters as one, which read side by side.
 ghost use Rattle.std.specs.Prelude.{◌≡◌};
-ghost use Rattle.measure.specs.Pair.{pair-measure};
-ghost use Rattle.measure.proofs.Pair.{pair-lawful};
+ghost use Rattle.measure.specs.Pair.{pair_measure};
+ghost use Rattle.measure.proofs.Pair.{pair_lawful};
 
 use crate::interface::Meter;
 use measure::pair_reading::PairReading;
@@ -15,9 +15,9 @@ pub struct Pair<A, B> {
 impl<A: Meter, B: Meter> Meter for Pair<A, B> {
     type Reading = PairReading<A::Reading, B::Reading>;
 
-    ghost scale = { λ m. pair-measure (A.Meter.scale m.first) (B.Meter.scale m.second) };
+    ghost scale = { λ m. pair_measure (A.Meter.scale m.first) (B.Meter.scale m.second) };
 
-    ghost lawful = { λ m. pair-lawful (A.Meter.scale m.first) (B.Meter.scale m.second) (A.Meter.lawful m.first) (B.Meter.lawful m.second) };
+    ghost lawful = { λ m. pair_lawful (A.Meter.scale m.first) (B.Meter.scale m.second) (A.Meter.lawful m.first) (B.Meter.lawful m.second) };
 
     fn empty(&self) -> PairReading<A::Reading, B::Reading> {
         PairReading {

@@ -1,7 +1,7 @@
 // Place: a meter of bytes, line ends and UTF-16 units, by which places become lines and columns.
 ghost use Rattle.std.specs.Prelude.{◌≡◌, ◌+◌};
-ghost use Rattle.measure.specs.Place.{ends-line, width as width_of_lem, place-measure, join-extents};
-ghost use Rattle.measure.proofs.Place.{place-lawful};
+ghost use Rattle.measure.specs.Place.{ends_line, width as width_of_lem, place_measure, join_extents};
+ghost use Rattle.measure.proofs.Place.{place_lawful};
 
 use crate::interface::Meter;
 use crate::limit::length_within;
@@ -13,7 +13,7 @@ pub struct Place;
 
 // Whether a line ends at this byte.
 pub fn ends_line(byte: u8) -> bool
-    ensures { result ≡ ends-line byte }
+    ensures { result ≡ ends_line byte }
 {
     byte == b'\n'
 }
@@ -33,7 +33,7 @@ pub fn width(byte: u8) -> u32
 // Two extents, one behind the other, where their lengths together are a length.
 fn join_extents(left: &Extent, right: &Extent, length: u32) -> Extent
     requires { length ≡ left.now.length + right.now.length }
-    ensures { result ≡ join-extents left.now right.now }
+    ensures { result ≡ join_extents left.now right.now }
 {
     Extent {
         length,
@@ -49,9 +49,9 @@ fn join_extents(left: &Extent, right: &Extent, length: u32) -> Extent
 impl Meter for Place {
     type Reading = Bounded<Extent>;
 
-    ghost scale = { λ _. place-measure };
+    ghost scale = { λ _. place_measure };
 
-    ghost lawful = { λ _. place-lawful };
+    ghost lawful = { λ _. place_lawful };
 
     fn empty(&self) -> Bounded<Extent> {
         Bounded::Within(Extent {

@@ -5,7 +5,7 @@ use Rattle.model.specs.declared.change.Change.{Change}
 use Rattle.model.specs.declared.refusal.Refusal.{Refusal}
 use Rattle.model.specs.declared.refusal.Refusal.TheVariants.{OpenedBefore, SlotCount, LentLength, UnusableGrammar, DueStands, OutsideText, TooManyBytes, TooManyChunks, UnknownDue, ShortScreen, ShortBuffer}
 use Rattle.model.specs.Model.{Model, text_of}
-use Rattle.model.specs.Edit.{edited-chunks}
+use Rattle.model.specs.Edit.{edited_chunks}
 use Rattle.model.specs.Paint.{length_before}
 
 -- A test that has to be passed; behind it the next ones follow.
@@ -18,13 +18,13 @@ answered None x = Ok x
 answered (Some refusal) x = Err refusal
 
 -- The refusal in an answer, if it is one.
-abbrev pub refusal-in : {X : Type 0} → Result X Refusal → Option Refusal
-refusal-in (Ok x) = None
-refusal-in (Err refusal) = Some refusal
+abbrev pub refusal_in : {X : Type 0} → Result X Refusal → Option Refusal
+refusal_in (Ok x) = None
+refusal_in (Err refusal) = Some refusal
 
 -- OPEN, with a grammar of so many states
-abbrev pub open-refusal : Model → ℕ → Option Refusal
-open-refusal m states =
+abbrev pub open_refusal : Model → ℕ → Option Refusal
+open_refusal m states =
     unless (m.usable == 0) OpenedBefore
     (unless (nat_le 1 m.slots && nat_le m.slots 4096) (SlotCount m.slots)
     (unless (m.store == 64 * m.slots) (LentLength m.store)
@@ -35,23 +35,23 @@ abbrev pub opened : Model → Model
 opened m = record { slots = m.slots; store = m.store; readings = m.readings; usable = m.slots; chunks = []; due = m.due }
 
 -- EDIT and CLOSE wait until the due that stands is painted.
-abbrev pub unless-due : Option Change → Option Refusal → Option Refusal
-unless-due None next = next
-unless-due (Some c) next = Some (DueStands c.place)
+abbrev pub unless_due : Option Change → Option Refusal → Option Refusal
+unless_due None next = next
+unless_due (Some c) next = Some (DueStands c.place)
 
-abbrev pub unless-outside : Model → ℕ → ℕ → Option Refusal → Option Refusal
-unless-outside m from to = unless (nat_le from to && nat_le to (length (text_of m))) (OutsideText to)
+abbrev pub unless_outside : Model → ℕ → ℕ → Option Refusal → Option Refusal
+unless_outside m from to = unless (nat_le from to && nat_le to (length (text_of m))) (OutsideText to)
 
 -- EDIT: what its range, its bytes and its chunks have to be, and the due before all.
-abbrev pub change-refusal : Model → ℕ → ℕ → List ℕ → Option Refusal
-change-refusal m from to new =
-    let chunks = length (edited-chunks m.chunks from to new) in
-    unless-outside m from to
+abbrev pub change_refusal : Model → ℕ → ℕ → List ℕ → Option Refusal
+change_refusal m from to new =
+    let chunks = length (edited_chunks m.chunks from to new) in
+    unless_outside m from to
     (unless (nat_le (length new) 1024) (TooManyBytes (length new))
     (unless (nat_le chunks m.usable) (TooManyChunks chunks) None))
 
-abbrev pub edit-refusal : Model → ℕ → ℕ → List ℕ → Option Refusal
-edit-refusal m from to new = unless-due m.due (change-refusal m from to new)
+abbrev pub edit_refusal : Model → ℕ → ℕ → List ℕ → Option Refusal
+edit_refusal m from to new = unless_due m.due (change_refusal m from to new)
 
 -- What it leaves, given the four numbers that it answers.
 abbrev pub edited : Model → ℕ → ℕ → List ℕ → Change → Model
@@ -60,20 +60,20 @@ edited m from to new c = record {
   store = m.store;
   readings = m.readings;
   usable = m.usable;
-  chunks = edited-chunks m.chunks from to new;
+  chunks = edited_chunks m.chunks from to new;
   due = Some c;
 }
 
 -- PAINT
-abbrev pub same-change : Change → Change → Bool
-same-change c d = c.place == d.place && (c.removed == d.removed && (c.inserted == d.inserted && c.end == d.end))
+abbrev pub same_change : Change → Change → Bool
+same_change c d = c.place == d.place && (c.removed == d.removed && (c.inserted == d.inserted && c.end == d.end))
 
 abbrev pub stands : Option Change → Change → Bool
 stands None c = false
-stands (Some d) c = same-change d c
+stands (Some d) c = same_change d c
 
-abbrev pub screen-refusal : Model → Change → ℕ → Option Refusal
-screen-refusal m c cells =
+abbrev pub screen_refusal : Model → Change → ℕ → Option Refusal
+screen_refusal m c cells =
     let n = length (text_of m) in
     unless (nat_le n cells && nat_le (length_before c n) cells) (ShortScreen cells) None
 
@@ -81,30 +81,30 @@ screen-refusal m c cells =
 abbrev pub fits : Change → ℕ → Bool
 fits c n = nat_le (c.place + c.inserted) c.end && nat_le c.end n
 
-abbrev pub due-fits : Option Change → ℕ → Bool
-due-fits None n = true
-due-fits (Some c) n = fits c n
+abbrev pub due_fits : Option Change → ℕ → Bool
+due_fits None n = true
+due_fits (Some c) n = fits c n
 
 -- Numbers that do not fit the text are no due of it.
-abbrev pub fitting-refusal : Model → Change → ℕ → Option Refusal
-fitting-refusal m c cells = unless (fits c (length (text_of m))) (UnknownDue c.place) (screen-refusal m c cells)
+abbrev pub fitting_refusal : Model → Change → ℕ → Option Refusal
+fitting_refusal m c cells = unless (fits c (length (text_of m))) (UnknownDue c.place) (screen_refusal m c cells)
 
-abbrev pub paint-refusal : Model → Change → ℕ → Option Refusal
-paint-refusal m c cells = unless (stands m.due c) (UnknownDue c.place) (screen-refusal m c cells)
+abbrev pub paint_refusal : Model → Change → ℕ → Option Refusal
+paint_refusal m c cells = unless (stands m.due c) (UnknownDue c.place) (screen_refusal m c cells)
 
 abbrev pub settled : Model → Model
 settled m = record { slots = m.slots; store = m.store; readings = m.readings; usable = m.usable; chunks = m.chunks; due = None }
 
 -- CLOSE
-abbrev pub close-refusal : Model → Option Refusal
-close-refusal m = unless-due m.due None
+abbrev pub close_refusal : Model → Option Refusal
+close_refusal m = unless_due m.due None
 
 -- TEXT and COLOURS, with a buffer of so many cells
-abbrev pub range-refusal : Model → ℕ → ℕ → ℕ → Option Refusal
-range-refusal m from to cells =
-    unless-outside m from to
+abbrev pub range_refusal : Model → ℕ → ℕ → ℕ → Option Refusal
+range_refusal m from to cells =
+    unless_outside m from to
     (unless (nat_le (to - from) cells) (ShortBuffer cells) None)
 
 -- A buffer with the range's part of a list at its front; the rest stays.
-abbrev pub with-front : List ℕ → List ℕ → List ℕ
-with-front part buffer = part ++ drop (length part) buffer
+abbrev pub with_front : List ℕ → List ℕ → List ℕ
+with_front part buffer = part ++ drop (length part) buffer

@@ -5,8 +5,8 @@ use Rattle.chunks.specs.Cut.{joined, cut, replaced}
 use Rattle.chunks.specs.Spot.{spot_in}
 use Rattle.model.specs.declared.run.Run.{Run}
 
-abbrev pub edited-text : List ℕ → ℕ → ℕ → List ℕ → List ℕ
-edited-text text from to new = take from text ++ (new ++ drop to text)
+abbrev pub edited_text : List ℕ → ℕ → ℕ → List ℕ → List ℕ
+edited_text text from to new = take from text ++ (new ++ drop to text)
 
 -- The chunks from `first` up to `last`, with the places where they begin and end.
 abbrev pub run_of : List (List ℕ) → ℕ → ℕ → Run
@@ -32,15 +32,15 @@ touched chunks from to =
     (run_of chunks (spot_in chunks (first_byte from to)).chunk ((spot_in chunks (last_byte from to)).chunk + 1))
 
 -- How many bytes come in the place of a run: what is left of its chunks, and the new bytes.
-abbrev pub middle-length : Run → ℕ → ℕ → ℕ → ℕ
-middle-length run from to count = (from - run.start) + (count + (run.end - to))
+abbrev pub middle_length : Run → ℕ → ℕ → ℕ → ℕ
+middle_length run from to count = (from - run.start) + (count + (run.end - to))
 
 -- So few bytes, where there are any, take a neighbour along: the chunk on the right, else the one on the left, if there is one.
 abbrev pub few : ℕ → Bool
 few j = nat_le 1 j && nat_le j 31
 
-abbrev pub with-neighbour : List (List ℕ) → Run → Run
-with-neighbour chunks run =
+abbrev pub with_neighbour : List (List ℕ) → Run → Run
+with_neighbour chunks run =
     cond (nat_lt run.last (length chunks)) (run_of chunks run.first (run.last + 1))
     (cond (nat_lt 0 run.first) (run_of chunks (run.first - 1) run.last) run)
 
@@ -48,13 +48,13 @@ with-neighbour chunks run =
 unfoldable pub affected : List (List ℕ) → ℕ → ℕ → ℕ → Run
 affected chunks from to count =
     let run = touched chunks from to in
-    cond (few (middle-length run from to count)) (with-neighbour chunks run) run
+    cond (few (middle_length run from to count)) (with_neighbour chunks run) run
 
 -- The bytes that come in their place, and the chunks after the edit.
 abbrev pub middle : List ℕ → Run → ℕ → ℕ → List ℕ → List ℕ
 middle text run from to new = between run.start from text ++ (new ++ between to run.end text)
 
-unfoldable pub edited-chunks : List (List ℕ) → ℕ → ℕ → List ℕ → List (List ℕ)
-edited-chunks chunks from to new =
+unfoldable pub edited_chunks : List (List ℕ) → ℕ → ℕ → List ℕ → List (List ℕ)
+edited_chunks chunks from to new =
     let run = affected chunks from to (length new) in
     replaced run.first run.last (cut (middle (joined chunks) run from to new)) chunks

@@ -1,14 +1,14 @@
 // The laws of a document's calls: each is what a function here ensures, so that its proof is asked for.
-ghost use Rattle.model.specs.Laws.{Edit-leaves-text, Edit-ends-first, Painting-shows-text};
+ghost use Rattle.model.specs.Laws.{EditLeavesText, EditEndsFirst, PaintingShowsText};
 
 pub fn edit_leaves_text()
-    ensures { Edit-leaves-text }
+    ensures { EditLeavesText }
 {}
 
 pub fn edit_ends_first()
-    ensures { Edit-ends-first }
+    ensures { EditEndsFirst }
 {}
 
 pub fn painting_shows_text()
-    ensures { Painting-shows-text }
+    ensures { PaintingShowsText }
 {}

@@ -1,12 +1,12 @@
 // Questions about the tree that memory holds, answered by going down one path.
 ghost use Rattle.std.specs.Prelude.{◌≡◌, ℕ, ◌+◌, ◌<◌, ◌≤◌, length};
-ghost use Rattle.chunks.specs.Tree.{Tree, Balanced, height as height-of};
+ghost use Rattle.chunks.specs.Tree.{Tree, Balanced, height as height_of};
 ghost use Rattle.chunks.specs.Spot.{spot_in};
 ghost use Rattle.chunks.specs.Cut.{Chunk};
 ghost use Rattle.std.specs.List.{AllByRecursion as All};
-ghost use Rattle.slots.specs.View.{extent-of, chunks_of, size_of, Roomy};
+ghost use Rattle.slots.specs.View.{extent_of, chunks_of, size_of, Roomy};
 ghost use Rattle.slots.specs.Split.{Held};
-ghost use Rattle.slots.specs.Sound.{Sound, tree_of, chunks-in};
+ghost use Rattle.slots.specs.Sound.{Sound, tree_of, chunks_in};
 
 use balance::join::child;
 use balance::link::extent;
@@ -17,12 +17,12 @@ use slots::slot::Extent;
 // How large the tree is.
 pub fn size<R: Copy>(memory: &Memory<R>, link: Option<u16>) -> Extent
     requires { Sound memory.now link }
-    ensures is { result ≡ extent-of memory.now (tree_of memory.now link) }
-    ensures count { result.chunks ≡ length (chunks-in memory.now link) }
+    ensures is { result ≡ extent_of memory.now (tree_of memory.now link) }
+    ensures count { result.chunks ≡ length (chunks_in memory.now link) }
     ensures balanced { Balanced (tree_of memory.now link) }
-    ensures low { height-of (tree_of memory.now link) ≤ 16 }
-    ensures few { length (chunks-in memory.now link) ≤ memory.now.usable }
-    ensures chunked { All Chunk (chunks-in memory.now link) }
+    ensures low { height_of (tree_of memory.now link) ≤ 16 }
+    ensures few { length (chunks_in memory.now link) ≤ memory.now.usable }
+    ensures chunked { All Chunk (chunks_in memory.now link) }
 {
     extent(memory, link)
 }
@@ -74,7 +74,7 @@ fn spot_under<R: Copy>(memory: &Memory<R>, link: Option<u16>, place: u32) -> Spo
 // Where a place lies among the chunks.
 pub fn spot<R: Copy>(memory: &Memory<R>, link: Option<u16>, place: u32) -> Spot
     requires { Sound memory.now link }
-    ensures is { result ≡ spot_in (chunks-in memory.now link) place }
+    ensures is { result ≡ spot_in (chunks_in memory.now link) place }
     ensures few { result.chunk ≤ 4096 }
 {
     spot_under(memory, link, place)

@@ -7,5 +7,5 @@ use Rattle.report.specs.Rendered.{palette}
 two_digits : All (λ n. n < 100) palette
 two_digits = omega arith
 
-pub palette-small : (class : ℕ) → get_or palette (class % 16) 0 < 100
-palette-small class = All-get_or (λ n. n < 100) palette (class % 16) 0 (omega arith) two_digits
+pub palette_small : (class : ℕ) → get_or palette (class % 16) 0 < 100
+palette_small class = All-get_or (λ n. n < 100) palette (class % 16) 0 (omega arith) two_digits

@@ -4,11 +4,11 @@ use Rattle.std.proofs.lemmas.Bool.{cases_lt, cond-true, cond-false, le-leb, lt-l
 use Rattle.automaton.specs.Automaton.{Automaton, Lawful}
 use Rattle.measure.specs.Bounded.{longest}
 use Rattle.measure.specs.Measure.{Measure, reading}
-use Rattle.measure.specs.Pair.{pair-measure}
-use Rattle.measure.specs.Place.{extent, place-measure, place-reading}
-use Rattle.measure.specs.Walk.{entry, passage, still, walk-measure, walk-reading}
-use Rattle.measure.proofs.Bounded.{bounded-within, bounded-over}
-use Rattle.measure.proofs.Pair.{pair-reading}
+use Rattle.measure.specs.Pair.{pair_measure}
+use Rattle.measure.specs.Place.{extent, place_measure, place_reading}
+use Rattle.measure.specs.Walk.{entry, passage, still, walk_measure, walk_reading}
+use Rattle.measure.proofs.Bounded.{bounded_within, bounded_over}
+use Rattle.measure.proofs.Pair.{pair_reading}
 use Rattle.measure.proofs.Place.{place_is}
 use Rattle.measure.proofs.Rows.{get_d_rows}
 use Rattle.measure.proofs.Walk.{walk_is}
@@ -19,28 +19,28 @@ use Rattle.report.specs.Summary.{summary, summarized}
 use Rattle.report.specs.declared.summary.Summary.{Summary}
 
 module _ (a : Automaton) (text : List ℕ) where
-  abbrev with-start : Entry → Option Summary
-  with-start e =
+  abbrev with_start : Entry → Option Summary
+  with_start e =
       let x = extent text in
       Some (record { length = x.length; lines = x.lines; units = x.units; state = e.end; closings = e.closings; openings = e.openings })
 
-  within : length text ≤ longest → summarized (walk-reading a text) (place-reading text) ≡ summary a text
+  within : length text ≤ longest → summarized (walk_reading a text) (place_reading text) ≡ summary a text
   within h =
-      ap (λ w. summarized w (place-reading text)) (bounded-within (passage a) text h)
-      ∙ ap (summarized (Within (passage a text))) (bounded-within extent text h)
-      ∙ ap with-start (get_d_rows (λ s. entry a s text) 0 (still 0) (omega arith))
-      ∙ sym (cond-true (leb (length text) longest) (with-start (entry a 0 text)) None (le-leb (length text) longest h))
+      ap (λ w. summarized w (place_reading text)) (bounded_within (passage a) text h)
+      ∙ ap (summarized (Within (passage a text))) (bounded_within extent text h)
+      ∙ ap with_start (get_d_rows (λ s. entry a s text) 0 (still 0) (omega arith))
+      ∙ sym (cond-true (leb (length text) longest) (with_start (entry a 0 text)) None (le-leb (length text) longest h))
 
-  over : longest < length text → summarized (walk-reading a text) (place-reading text) ≡ summary a text
+  over : longest < length text → summarized (walk_reading a text) (place_reading text) ≡ summary a text
   over h =
-      ap (λ w. summarized w (place-reading text)) (bounded-over (passage a) text h)
-      ∙ sym (cond-false (leb (length text) longest) (with-start (entry a 0 text)) None (lt-leb (length text) longest h))
+      ap (λ w. summarized w (place_reading text)) (bounded_over (passage a) text h)
+      ∙ sym (cond-false (leb (length text) longest) (with_start (entry a 0 text)) None (lt-leb (length text) longest h))
 
-  pub summarized-is : Lawful a → {H : Type 0} (μ : Measure H) (r : PairReading _ _) → r ≡ reading (pair-measure (walk-measure a) (pair-measure place-measure μ)) text → summarized r.first r.second.first ≡ summary a text
-  summarized-is lawful μ r measured =
-      let parts = measured ∙ pair-reading (walk-measure a) (pair-measure place-measure μ) text in
+  pub summarized_is : Lawful a → {H : Type 0} (μ : Measure H) (r : PairReading _ _) → r ≡ reading (pair_measure (walk_measure a) (pair_measure place_measure μ)) text → summarized r.first r.second.first ≡ summary a text
+  summarized_is lawful μ r measured =
+      let parts = measured ∙ pair_reading (walk_measure a) (pair_measure place_measure μ) text in
       ap (λ q. summarized q.first q.second.first) parts
-      ∙ ap (summarized (reading (walk-measure a) text)) (ap (λ q. q.first) (pair-reading place-measure μ text))
-      ∙ ap (λ w. summarized w (reading place-measure text)) (walk_is a lawful text)
-      ∙ ap (summarized (walk-reading a text)) (place_is text)
+      ∙ ap (summarized (reading (walk_measure a) text)) (ap (λ q. q.first) (pair_reading place_measure μ text))
+      ∙ ap (λ w. summarized w (reading place_measure text)) (walk_is a lawful text)
+      ∙ ap (summarized (walk_reading a text)) (place_is text)
       ∙ ⊎_elim over within (cases_lt longest (length text))

@@ -3,18 +3,18 @@ use Rattle.std.specs.Prelude.{◌≡◌, ℕ, List, codes, Option, MatchOption, 
 use Rattle.report.specs.declared.pile.Pile.{Pile}
 use Rattle.report.specs.declared.pile.Pile.TheVariants.{Words, Comment, String, Region, StringComment, CommentString, CommentRegion, StringRegion, Comment4, Comment5}
 
-abbrev pub pile-name : Pile → List ℕ
-pile-name Words = codes "words"
-pile-name Comment = codes "comment"
-pile-name String = codes "string"
-pile-name Region = codes "region"
-pile-name StringComment = codes "string-comment"
-pile-name CommentString = codes "comment-string"
-pile-name CommentRegion = codes "comment-region"
-pile-name StringRegion = codes "string-region"
-pile-name Comment4 = codes "comment4"
-pile-name Comment5 = codes "comment5"
+abbrev pub pile_name : Pile → List ℕ
+pile_name Words = codes "words"
+pile_name Comment = codes "comment"
+pile_name String = codes "string"
+pile_name Region = codes "region"
+pile_name StringComment = codes "string-comment"
+pile_name CommentString = codes "comment-string"
+pile_name CommentRegion = codes "comment-region"
+pile_name StringRegion = codes "string-region"
+pile_name Comment4 = codes "comment4"
+pile_name Comment5 = codes "comment5"
 
 -- A name finds the pile that has it, or nothing if none has.
-abbrev pub Finds-by-name : List ℕ → Option Pile → Type 0
-Finds-by-name name found = MatchOption found ((p : Pile) → pile-name p ≢ name) (λ p. pile-name p ≡ name)
+abbrev pub FindsByName : List ℕ → Option Pile → Type 0
+FindsByName name found = MatchOption found ((p : Pile) → pile_name p ≢ name) (λ p. pile_name p ≡ name)

@@ -3,8 +3,8 @@ use Rattle.std.specs.Prelude.{ℕ, cond, List, ◌++◌, length, Some, None, cod
 use Rattle.automaton.specs.Automaton.{Automaton}
 use Rattle.automaton.specs.Walk.{walk}
 use Rattle.measure.specs.Bounded.{longest}
-use Rattle.measure.specs.Place.{line-ends, units}
-use Rattle.measure.specs.Unmatched.{unmatched-closings, unmatched-openings}
+use Rattle.measure.specs.Place.{line_ends, units}
+use Rattle.measure.specs.Unmatched.{unmatched_closings, unmatched_openings}
 use Rattle.measure.specs.Walk.{entry_at}
 use Rattle.measure.specs.declared.bounded_reading.Bounded.{Bounded}
 use Rattle.measure.specs.declared.bounded_reading.Bounded.TheVariants.{Within, Overlong}
@@ -18,11 +18,11 @@ summary a text =
     cond (nat_le (length text) longest)
     (Some (record {
       length = length text;
-      lines = line-ends text;
+      lines = line_ends text;
       units = units text;
       state = walk a 0 text;
-      closings = unmatched-closings a 0 text;
-      openings = unmatched-openings a 0 text;
+      closings = unmatched_closings a 0 text;
+      openings = unmatched_openings a 0 text;
     }))
     None
 
@@ -40,8 +40,8 @@ summarized (Within p) (Within e) =
       openings = (entry_at p.entries 0).openings;
     })
 
-abbrev pub summary-line : Option Summary → List ℕ
-summary-line None = codes "overlong"
-summary-line (Some s) =
+abbrev pub summary_line : Option Summary → List ℕ
+summary_line None = codes "overlong"
+summary_line (Some s) =
     codes "length " ++ (decimal s.length ++ (codes " lines " ++ (decimal s.lines ++ (codes " units " ++ (decimal s.units
     ++ (codes " state " ++ (decimal s.state ++ (codes " closings " ++ (decimal s.closings ++ (codes " openings " ++ decimal s.openings))))))))))

@@ -1,4 +1,7 @@
 // What the program writes of a text: its colours in a view, its extent in a line; and the names of the piles.
+
+#![tactic(auto)]
+
 pub mod colours;
 pub mod measuring;
 pub mod pile;

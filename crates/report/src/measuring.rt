@@ -1,6 +1,6 @@
 // Measures a text by the document's meter and says what it reads from state 0.
 ghost use Rattle.std.specs.Prelude.{◌≡◌, IfOk, string_bytes};
-ghost use Rattle.report.specs.Summary.{summary as text-summary, summarized, summary-line};
+ghost use Rattle.report.specs.Summary.{summary as text_summary, summarized, summary_line};
 
 use crate::summary::Summary;
 use grammar::Grammar;
@@ -33,7 +33,7 @@ pub fn summarize(walk: &Bounded<Passage>, place: &Bounded<Extent>) -> Option<Sum
 
 // What is read of the whole text; nothing where it is overlong.
 pub fn summary_of<G: Grammar + Copy>(grammar: &G, text: &[u8]) -> Option<Summary>
-    ensures { result ≡ text-summary (G.Grammar.meaning grammar.now) text.now }
+    ensures { result ≡ text_summary (G.Grammar.meaning grammar.now) text.now }
 {
     let meter: DocumentMeter<G, Blank> = Pair {
         first: Walk { grammar: *grammar },
@@ -48,7 +48,7 @@ pub fn summary_of<G: Grammar + Copy>(grammar: &G, text: &[u8]) -> Option<Summary
 
 // The line that the program writes of it.
 pub fn summary_text(heap: Global, summary: Option<Summary>) -> Result<String, AllocError>
-    ensures { IfOk result (λ s. string_bytes s ≡ summary-line summary) }
+    ensures { IfOk result (λ s. string_bytes s ≡ summary_line summary) }
 {
     let Some(s) = summary else {
         return String::from_str(heap, "overlong");

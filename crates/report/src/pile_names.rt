@@ -1,11 +1,11 @@
 // Finds a pile by its name.
-ghost use Rattle.report.specs.Piles.{Finds-by-name};
+ghost use Rattle.report.specs.Piles.{FindsByName};
 
 use crate::pile::Pile;
 
 impl Pile {
     pub fn named(name: &str) -> Option<Pile>
-        ensures { Finds-by-name name.now result }
+        ensures { FindsByName name.now result }
     {
         match name {
             "words" => Some(Pile::Words),

@@ -1,6 +1,6 @@
 // Writes a text and its colours in a view: digits, or the text in a terminal's colours.
 ghost use Rattle.std.specs.Prelude.{◌≡◌, ◌%◌, ◌<◌, ◌++◌, IfOk, OnOk};
-ghost use Rattle.report.specs.Rendered.{hex-digit, digit-of, switch-to, switch, visible as visible-of, escape-sequence, opening as Opening-of, piece, next-shown, closing as closing-of, rendered};
+ghost use Rattle.report.specs.Rendered.{hex_digit, digit_of, switch_to, switch, visible as visible_of, escape_sequence, opening as OpeningOf, piece, next_shown, closing as closing_of, rendered};
 
 use crate::view::View;
 use std::alloc::{AllocError, Global};
@@ -11,14 +11,14 @@ const PALETTE: [u8; 16] = [
 ];
 
 fn hex_digit_of(class: u8) -> u8
-    ensures { result ≡ hex-digit (class % 16) }
+    ensures { result ≡ hex_digit (class % 16) }
 {
     let n = class % 16;
     if n < 10 { b'0' + n } else { b'a' + (n - 10) }
 }
 
 fn put_digit(out: &mut Vec<u8>, byte: u8, class: u8) -> Result<(), AllocError>
-    ensures { OnOk result (out.new.items ≡ out.old.items ++ digit-of byte class) }
+    ensures { OnOk result (out.new.items ≡ out.old.items ++ digit_of byte class) }
 {
     let digit = hex_digit_of(class);
     match byte {
@@ -30,20 +30,20 @@ fn put_digit(out: &mut Vec<u8>, byte: u8, class: u8) -> Result<(), AllocError>
 // ESC [ and a number of two digits and m.
 fn put_escape(out: &mut Vec<u8>, number: u8) -> Result<(), AllocError>
     requires { number < 100 }
-    ensures { OnOk result (out.new.items ≡ out.old.items ++ escape-sequence number) }
+    ensures { OnOk result (out.new.items ≡ out.old.items ++ escape_sequence number) }
 {
     let sequence = [0x1B, b'[', b'0' + number / 10, b'0' + number % 10, b'm'];
     out.extend_from_slice(&sequence)
 }
 
 fn put_switch(out: &mut Vec<u8>, class: u8) -> Result<(), AllocError>
-    ensures { OnOk result (out.new.items ≡ out.old.items ++ switch-to class) }
+    ensures { OnOk result (out.new.items ≡ out.old.items ++ switch_to class) }
 {
     put_escape(out, PALETTE[class as usize % 16])
 }
 
 fn put_visible(out: &mut Vec<u8>, byte: u8) -> Result<(), AllocError>
-    ensures { OnOk result (out.new.items ≡ out.old.items ++ visible-of byte) }
+    ensures { OnOk result (out.new.items ≡ out.old.items ++ visible_of byte) }
 {
     match byte {
         0x7F => out.extend_from_slice(b"^?"),
@@ -66,7 +66,7 @@ fn put_change(out: &mut Vec<u8>, last: u8, class: u8) -> Result<(), AllocError>
 
 // A byte in the class `shown`, where `last` was shown before it.
 fn put_coloured(out: &mut Vec<u8>, last: u8, shown: u8, byte: u8) -> Result<(), AllocError>
-    ensures { OnOk result (out.new.items ≡ out.old.items ++ (switch last shown ++ visible-of byte)) }
+    ensures { OnOk result (out.new.items ≡ out.old.items ++ (switch last shown ++ visible_of byte)) }
 {
     put_change(out, last, shown)?;
     put_visible(out, byte)?;
@@ -75,7 +75,7 @@ fn put_coloured(out: &mut Vec<u8>, last: u8, shown: u8, byte: u8) -> Result<(), 
 
 // One byte in its class; gives the class that is shown behind it.
 fn put_piece(out: &mut Vec<u8>, view: View, last: u8, byte: u8, class: u8) -> Result<u8, AllocError>
-    ensures { IfOk result (λ n. (n ≡ next-shown view last byte class) × (out.new.items ≡ out.old.items ++ piece view last byte class)) }
+    ensures { IfOk result (λ n. (n ≡ next_shown view last byte class) × (out.new.items ≡ out.old.items ++ piece view last byte class)) }
 {
     match view {
         View::Digits => {
@@ -95,7 +95,7 @@ fn put_piece(out: &mut Vec<u8>, view: View, last: u8, byte: u8, class: u8) -> Re
 }
 
 fn put_opening(out: &mut Vec<u8>, view: View) -> Result<(), AllocError>
-    ensures { OnOk result (out.new.items ≡ out.old.items ++ Opening-of view) }
+    ensures { OnOk result (out.new.items ≡ out.old.items ++ OpeningOf view) }
 {
     match view {
         View::Digits => out.extend_from_slice(&[]),
@@ -104,7 +104,7 @@ fn put_opening(out: &mut Vec<u8>, view: View) -> Result<(), AllocError>
 }
 
 fn put_closing(out: &mut Vec<u8>, view: View) -> Result<(), AllocError>
-    ensures { OnOk result (out.new.items ≡ out.old.items ++ closing-of view) }
+    ensures { OnOk result (out.new.items ≡ out.old.items ++ closing_of view) }
 {
     match view {
         View::Digits => out.extend_from_slice(b"\n"),

@@ -1,5 +1,7 @@
 // Colours a scene: a text on standard input, its colours on standard output.
 
+#![tactic(auto)]
+
 use anyhow::anyhow;
 use grammar::{Grammar, Words};
 use layers::{Comment, Quoted, Region};

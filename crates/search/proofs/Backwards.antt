@@ -4,110 +4,110 @@ use Rattle.std.proofs.lemmas.List.{drop_more, take_all, nil_from_length}
 use Rattle.std.proofs.lemmas.Bool.{cond-true, cond-false, cond_both, cases_lt}
 use Rattle.search.specs.declared.stop.Stop.{Stop}
 use Rattle.search.specs.Forwards.{shifted, after}
-use Rattle.search.specs.Backwards.{forwards, leftwards, back-stop}
+use Rattle.search.specs.Backwards.{forwards, leftwards, back_stop}
 
-pub forwards-append : {F : Type 0} (fore : F → ℕ → F) (f : F) (xs ys : List ℕ) → forwards fore f (xs ++ ys) ≡ forwards fore (forwards fore f xs) ys
-forwards-append fore f [] ys = refl
-forwards-append fore f (b ∷ xs) ys = forwards-append fore (fore f b) xs ys
+pub forwards_append : {F : Type 0} (fore : F → ℕ → F) (f : F) (xs ys : List ℕ) → forwards fore f (xs ++ ys) ≡ forwards fore (forwards fore f xs) ys
+forwards_append fore f [] ys = refl
+forwards_append fore f (b ∷ xs) ys = forwards_append fore (fore f b) xs ys
 
 module _ {A : Type 0} where
-  abbrev stop-of : ℕ → A → Bool → Stop A
-  stop-of n a s = record { passed = n; at = a; stopped = s }
+  abbrev stop_of : ℕ → A → Bool → Stop A
+  stop_of n a s = record { passed = n; at = a; stopped = s }
 
-  after_none : (s : Stop A) → s ≡ after s (λ x. stop-of 0 x false)
+  after_none : (s : Stop A) → s ≡ after s (λ x. stop_of 0 x false)
   after_none s = by s.stopped
     where
-      by : (b : Bool) → stop-of s.passed s.at b ≡ cond b (stop-of s.passed s.at b) (stop-of (s.passed + 0) s.at false)
+      by : (b : Bool) → stop_of s.passed s.at b ≡ cond b (stop_of s.passed s.at b) (stop_of (s.passed + 0) s.at false)
       by true = refl
-      by false = ap (λ n. stop-of n s.at false) (sym (add-zero s.passed))
+      by false = ap (λ n. stop_of n s.at false) (sym (add-zero s.passed))
 
-  left-shift : (n : ℕ) (s : Stop A) (o : Option A) → leftwards (shifted n s) o ≡ shifted n (leftwards s o)
-  left-shift n s None = refl
-  left-shift n s (Some x) = ap (λ k. stop-of k x false) (add_assoc n s.passed 1)
+  left_shift : (n : ℕ) (s : Stop A) (o : Option A) → leftwards (shifted n s) o ≡ shifted n (leftwards s o)
+  left_shift n s None = refl
+  left_shift n s (Some x) = ap (λ k. stop_of k x false) (add_assoc n s.passed 1)
 
 module _ {F A : Type 0} (fore : F → ℕ → F) (prev : F → ℕ → A → Option A) where
   -- one byte more to the left
   abbrev step : F → ℕ → Stop A → Stop A
   step f b s = cond s.stopped s (leftwards s (prev f b s.at))
 
-  step-shift : (f : F) (b n : ℕ) (s : Stop A) → step f b (shifted n s) ≡ shifted n (step f b s)
-  step-shift f b n s = by s.stopped
+  step_shift : (f : F) (b n : ℕ) (s : Stop A) → step f b (shifted n s) ≡ shifted n (step f b s)
+  step_shift f b n s = by s.stopped
     where
       by : (t : Bool) → cond t (shifted n s) (leftwards (shifted n s) (prev f b s.at)) ≡ shifted n (cond t s (leftwards s (prev f b s.at)))
       by true = refl
-      by false = left-shift n s (prev f b s.at)
+      by false = left_shift n s (prev f b s.at)
 
   step_after : (f : F) (b : ℕ) (s : Stop A) (go : A → Stop A) → step f b (after s go) ≡ after s (λ x. step f b (go x))
   step_after f b s go = by s.stopped refl
     where
       by : (t : Bool) → s.stopped ≡ t → step f b (cond t s (shifted s.passed (go s.at))) ≡ cond t s (shifted s.passed (step f b (go s.at)))
       by true e = ap (λ t. cond t s (leftwards s (prev f b s.at))) e
-      by false e = step-shift f b s.passed (go s.at)
+      by false e = step_shift f b s.passed (go s.at)
 
-  pub back-stop-append : (f : F) (xs ys : List ℕ) (a : A) → back-stop fore prev f (xs ++ ys) a ≡ after (back-stop fore prev (forwards fore f xs) ys a) (λ x. back-stop fore prev f xs x)
-  back-stop-append f [] ys a = after_none (back-stop fore prev f ys a)
-  back-stop-append f (b ∷ xs) ys a =
-      ap (step f b) (back-stop-append (fore f b) xs ys a) ∙ step_after f b (back-stop fore prev (forwards fore (fore f b) xs) ys a) (λ x. back-stop fore prev (fore f b) xs x)
+  pub back_stop_append : (f : F) (xs ys : List ℕ) (a : A) → back_stop fore prev f (xs ++ ys) a ≡ after (back_stop fore prev (forwards fore f xs) ys a) (λ x. back_stop fore prev f xs x)
+  back_stop_append f [] ys a = after_none (back_stop fore prev f ys a)
+  back_stop_append f (b ∷ xs) ys a =
+      ap (step f b) (back_stop_append (fore f b) xs ys a) ∙ step_after f b (back_stop fore prev (forwards fore (fore f b) xs) ys a) (λ x. back_stop fore prev (fore f b) xs x)
 
 -- What is left of a run of bytes, one byte on.
-pub forwards-rest : {F : Type 0} (fore : F → ℕ → F) (f : F) (xs : List ℕ) (i : ℕ) → i < length xs → forwards fore f (drop i xs) ≡ forwards fore (fore f (get_or xs i 0)) (drop (i + 1) xs)
-forwards-rest fore f xs i h = ap (forwards fore f) (drop_more xs i 0 h)
+pub forwards_rest : {F : Type 0} (fore : F → ℕ → F) (f : F) (xs : List ℕ) (i : ℕ) → i < length xs → forwards fore f (drop i xs) ≡ forwards fore (fore f (get_or xs i 0)) (drop (i + 1) xs)
+forwards_rest fore f xs i h = ap (forwards fore f) (drop_more xs i 0 h)
 
 module _ {F A : Type 0} (fore : F → ℕ → F) (prev : F → ℕ → A → Option A) where
-  left-few : (n : ℕ) (s : Stop A) (o : Option A) → s.passed ≤ n → (leftwards s o).passed ≤ suc n
-  left-few n s None h = omega arith
-  left-few n s (Some x) h = omega arith
+  left_few : (n : ℕ) (s : Stop A) (o : Option A) → s.passed ≤ n → (leftwards s o).passed ≤ suc n
+  left_few n s None h = omega arith
+  left_few n s (Some x) h = omega arith
 
   -- A search passes no more bytes than there are.
-  pub back-few : (f : F) (xs : List ℕ) (a : A) → (back-stop fore prev f xs a).passed ≤ length xs
-  back-few f [] a = omega arith
-  back-few f (b ∷ xs) a =
-      let s = back-stop fore prev (fore f b) xs a in
-      let few = back-few (fore f b) xs a in
-      cond_both s.stopped s (leftwards s (prev f b s.at)) (λ z. z.passed ≤ suc (length xs)) (λ e. omega arith) (λ e. left-few (length xs) s (prev f b s.at) few)
+  pub back_few : (f : F) (xs : List ℕ) (a : A) → (back_stop fore prev f xs a).passed ≤ length xs
+  back_few f [] a = omega arith
+  back_few f (b ∷ xs) a =
+      let s = back_stop fore prev (fore f b) xs a in
+      let few = back_few (fore f b) xs a in
+      cond_both s.stopped s (leftwards s (prev f b s.at)) (λ z. z.passed ≤ suc (length xs)) (λ e. omega arith) (λ e. left_few (length xs) s (prev f b s.at) few)
 
-  pub back_none : (f : F) (xs : List ℕ) (a : A) → length xs ≡ 0 → record { passed = 0; at = a; stopped = false } ≡ back-stop fore prev f xs a
-  back_none f xs a e = ap (λ l. back-stop fore prev f l a) (sym (nil_from_length xs e))
+  pub back_none : (f : F) (xs : List ℕ) (a : A) → length xs ≡ 0 → record { passed = 0; at = a; stopped = false } ≡ back_stop fore prev f xs a
+  back_none f xs a e = ap (λ l. back_stop fore prev f l a) (sym (nil_from_length xs e))
 
   -- From behind to the first byte, and then over that byte.
-  back-first : (f : F) (xs : List ℕ) (a : A) → 0 < length xs → let s = back-stop fore prev (fore f (get_or xs 0 0)) (take (length xs - 1) (drop 1 xs)) a in back-stop fore prev f xs a ≡ cond s.stopped s (leftwards s (prev f (get_or xs 0 0) s.at))
-  back-first f [] a h = absurd (omega arith)
-  back-first f (b ∷ xs) a h =
+  back_first : (f : F) (xs : List ℕ) (a : A) → 0 < length xs → let s = back_stop fore prev (fore f (get_or xs 0 0)) (take (length xs - 1) (drop 1 xs)) a in back_stop fore prev f xs a ≡ cond s.stopped s (leftwards s (prev f (get_or xs 0 0) s.at))
+  back_first f [] a h = absurd (omega arith)
+  back_first f (b ∷ xs) a h =
       let rest : take (suc (length xs) - 1) xs ≡ xs = take_all (suc (length xs) - 1) xs (omega arith) in
-      ap (λ l. let s = back-stop fore prev (fore f b) l a in cond s.stopped s (leftwards s (prev f b s.at))) (sym rest)
+      ap (λ l. let s = back_stop fore prev (fore f b) l a in cond s.stopped s (leftwards s (prev f b s.at))) (sym rest)
 
-  module _ (f : F) (xs : List ℕ) (a : A) (some : 0 < length xs) (s : Stop A) (is : s ≡ back-stop fore prev (fore f (get_or xs 0 0)) (take (length xs - 1) (drop 1 xs)) a) where
-    whole : back-stop fore prev f xs a ≡ cond s.stopped s (leftwards s (prev f (get_or xs 0 0) s.at))
-    whole = back-first f xs a some ∙ ap (λ z. cond z.stopped z (leftwards z (prev f (get_or xs 0 0) z.at))) (sym is)
+  module _ (f : F) (xs : List ℕ) (a : A) (some : 0 < length xs) (s : Stop A) (is : s ≡ back_stop fore prev (fore f (get_or xs 0 0)) (take (length xs - 1) (drop 1 xs)) a) where
+    whole : back_stop fore prev f xs a ≡ cond s.stopped s (leftwards s (prev f (get_or xs 0 0) s.at))
+    whole = back_first f xs a some ∙ ap (λ z. cond z.stopped z (leftwards z (prev f (get_or xs 0 0) z.at))) (sym is)
 
-    pub back-stops : s.stopped ≡ true → s ≡ back-stop fore prev f xs a
-    back-stops e = sym (whole ∙ cond-true s.stopped s (leftwards s (prev f (get_or xs 0 0) s.at)) e)
+    pub back_stops : s.stopped ≡ true → s ≡ back_stop fore prev f xs a
+    back_stops e = sym (whole ∙ cond-true s.stopped s (leftwards s (prev f (get_or xs 0 0) s.at)) e)
 
-    pub back-over : (o : Option A) → s.stopped ≡ false → prev f (get_or xs 0 0) s.at ≡ o → leftwards s o ≡ back-stop fore prev f xs a
-    back-over o e p = sym (whole ∙ cond-false s.stopped s (leftwards s (prev f (get_or xs 0 0) s.at)) e ∙ ap (leftwards s) p)
+    pub back_over : (o : Option A) → s.stopped ≡ false → prev f (get_or xs 0 0) s.at ≡ o → leftwards s o ≡ back_stop fore prev f xs a
+    back_over o e p = sym (whole ∙ cond-false s.stopped s (leftwards s (prev f (get_or xs 0 0) s.at)) e ∙ ap (leftwards s) p)
 
-    pub back-less : s.passed < length xs
-    back-less =
-        let few = back-few (fore f (get_or xs 0 0)) (take (length xs - 1) (drop 1 xs)) a in
+    pub back_less : s.passed < length xs
+    back_less =
+        let few = back_few (fore f (get_or xs 0 0)) (take (length xs - 1) (drop 1 xs)) a in
         omega (arith, ap (λ z. z.passed) is, few, length-take (length xs - 1) (drop 1 xs), length-drop 1 xs)
 
   -- A search that stops in the second text has stopped in both; one that does not goes on before it.
-  pub stops-behind : (f : F) (xs ys : List ℕ) (a : A) (s : Stop A) → s ≡ back-stop fore prev (forwards fore f xs) ys a → s.stopped ≡ true → s ≡ back-stop fore prev f (xs ++ ys) a
-  stops-behind f xs ys a s e stopped =
-      let last = back-stop fore prev (forwards fore f xs) ys a in
+  pub stops_behind : (f : F) (xs ys : List ℕ) (a : A) (s : Stop A) → s ≡ back_stop fore prev (forwards fore f xs) ys a → s.stopped ≡ true → s ≡ back_stop fore prev f (xs ++ ys) a
+  stops_behind f xs ys a s e stopped =
+      let last = back_stop fore prev (forwards fore f xs) ys a in
       let halts : last.stopped ≡ true = sym (ap (λ z. z.stopped) e) ∙ stopped in
-      e ∙ sym (back-stop-append fore prev f xs ys a ∙ cond-true last.stopped last (shifted last.passed (back-stop fore prev f xs last.at)) halts)
+      e ∙ sym (back_stop_append fore prev f xs ys a ∙ cond-true last.stopped last (shifted last.passed (back_stop fore prev f xs last.at)) halts)
 
-  pub goes_before : (f : F) (xs ys : List ℕ) (a : A) (s : Stop A) → s ≡ back-stop fore prev (forwards fore f xs) ys a → s.stopped ≡ false → shifted s.passed (back-stop fore prev f xs s.at) ≡ back-stop fore prev f (xs ++ ys) a
+  pub goes_before : (f : F) (xs ys : List ℕ) (a : A) (s : Stop A) → s ≡ back_stop fore prev (forwards fore f xs) ys a → s.stopped ≡ false → shifted s.passed (back_stop fore prev f xs s.at) ≡ back_stop fore prev f (xs ++ ys) a
   goes_before f xs ys a s e running =
-      let last = back-stop fore prev (forwards fore f xs) ys a in
+      let last = back_stop fore prev (forwards fore f xs) ys a in
       let runs : last.stopped ≡ false = sym (ap (λ z. z.stopped) e) ∙ running in
-      ap (λ z. shifted z.passed (back-stop fore prev f xs z.at)) e
-      ∙ sym (back-stop-append fore prev f xs ys a ∙ cond-false last.stopped last (shifted last.passed (back-stop fore prev f xs last.at)) runs)
+      ap (λ z. shifted z.passed (back_stop fore prev f xs z.at)) e
+      ∙ sym (back_stop_append fore prev f xs ys a ∙ cond-false last.stopped last (shifted last.passed (back_stop fore prev f xs last.at)) runs)
 
   -- The bytes before a place that lie behind a text: the state before them is that behind the text.
-  pub state-behind : (f : F) (n : ℕ) (xs ys : List ℕ) (a : A) → back-stop fore prev (forwards fore f xs) (take (n - length xs) ys) a ≡ back-stop fore prev (forwards fore f (take n xs)) (take (n - length xs) ys) a
-  state-behind f n xs ys a =
-      ⊎_elim (λ h. let none : n - length xs ≡ 0 = omega arith in ap (λ k. back-stop fore prev (forwards fore f xs) (take k ys) a) none ∙ sym (ap (λ k. back-stop fore prev (forwards fore f (take n xs)) (take k ys) a) none))
-      (λ h. ap (λ l. back-stop fore prev (forwards fore f l) (take (n - length xs) ys) a) (sym (take_all n xs h)))
+  pub state_behind : (f : F) (n : ℕ) (xs ys : List ℕ) (a : A) → back_stop fore prev (forwards fore f xs) (take (n - length xs) ys) a ≡ back_stop fore prev (forwards fore f (take n xs)) (take (n - length xs) ys) a
+  state_behind f n xs ys a =
+      ⊎_elim (λ h. let none : n - length xs ≡ 0 = omega arith in ap (λ k. back_stop fore prev (forwards fore f xs) (take k ys) a) none ∙ sym (ap (λ k. back_stop fore prev (forwards fore f (take n xs)) (take k ys) a) none))
+      (λ h. ap (λ l. back_stop fore prev (forwards fore f l) (take (n - length xs) ys) a) (sym (take_all n xs h)))
       (cases_lt n (length xs))

@@ -3,60 +3,60 @@ use Rattle.std.proofs.Common.{◌≡◌, ℕ, zero, suc, ◌+◌, ◌<◌, ◌�
 use Rattle.std.proofs.lemmas.List.{drop_more, drop_all}
 use Rattle.std.proofs.lemmas.Bool.{cond-true, cond-false}
 use Rattle.search.specs.declared.stop.Stop.{Stop}
-use Rattle.search.specs.Forwards.{then, through, shifted, stop-or, stop, after, StopsAt}
+use Rattle.search.specs.Forwards.{then, through, shifted, stop_or, stop, after, StopsAt}
 
 module _ {A : Type 0} where
-  abbrev stop-of : ℕ → A → Bool → Stop A
-  stop-of n a s = record { passed = n; at = a; stopped = s }
+  abbrev stop_of : ℕ → A → Bool → Stop A
+  stop_of n a s = record { passed = n; at = a; stopped = s }
 
   pub shift_none : (s : Stop A) → shifted 0 s ≡ s
-  shift_none s = ap (λ n. stop-of n s.at s.stopped) (zero-add s.passed)
+  shift_none s = ap (λ n. stop_of n s.at s.stopped) (zero-add s.passed)
 
-  shift-after : (n : ℕ) (s : Stop A) (go : A → Stop A) → shifted n (after s go) ≡ after (shifted n s) go
-  shift-after n s go = by s.stopped
+  shift_after : (n : ℕ) (s : Stop A) (go : A → Stop A) → shifted n (after s go) ≡ after (shifted n s) go
+  shift_after n s go = by s.stopped
     where
       by : (b : Bool) → shifted n (cond b s (shifted s.passed (go s.at))) ≡ cond b (shifted n s) (shifted (n + s.passed) (go s.at))
       by true = refl
-      by false = ap (λ k. stop-of k (go s.at).at (go s.at).stopped) (sym (add_assoc n s.passed (go s.at).passed))
+      by false = ap (λ k. stop_of k (go s.at).at (go s.at).stopped) (sym (add_assoc n s.passed (go s.at).passed))
 
-  then-then : (o : Option A) (f g : A → Option A) → then (then o f) g ≡ then o (λ x. then (f x) g)
-  then-then None f g = refl
-  then-then (Some x) f g = refl
+  then_then : (o : Option A) (f g : A → Option A) → then (then o f) g ≡ then o (λ x. then (f x) g)
+  then_then None f g = refl
+  then_then (Some x) f g = refl
 
   then_same : (o : Option A) (f g : A → Option A) → ((x : A) → f x ≡ g x) → then o f ≡ then o g
   then_same None f g h = refl
   then_same (Some x) f g h = h x
 
-  stop-or-same : (a : A) (o : Option A) (f g : A → Stop A) (go : A → Stop A) → ((x : A) → f x ≡ after (g x) go) → stop-or a o f ≡ after (stop-or a o g) go
-  stop-or-same a None f g go h = refl
-  stop-or-same a (Some x) f g go h = ap (shifted 1) (h x) ∙ shift-after 1 (g x) go
+  stop_or_same : (a : A) (o : Option A) (f g : A → Stop A) (go : A → Stop A) → ((x : A) → f x ≡ after (g x) go) → stop_or a o f ≡ after (stop_or a o g) go
+  stop_or_same a None f g go h = refl
+  stop_or_same a (Some x) f g go h = ap (shifted 1) (h x) ∙ shift_after 1 (g x) go
 
 module _ {A : Type 0} (next : A → ℕ → Option A) where
   -- A search that runs through the first text goes on in the second.
-  pub through-append : (a : A) (xs ys : List ℕ) → through next a (xs ++ ys) ≡ then (through next a xs) (λ x. through next x ys)
-  through-append a [] ys = refl
-  through-append a (b ∷ xs) ys =
-      then_same (next a b) (λ x. through next x (xs ++ ys)) (λ x. then (through next x xs) (λ z. through next z ys)) (λ x. through-append x xs ys) ∙ sym (then-then (next a b) (λ x. through next x xs) (λ z. through next z ys))
+  pub through_append : (a : A) (xs ys : List ℕ) → through next a (xs ++ ys) ≡ then (through next a xs) (λ x. through next x ys)
+  through_append a [] ys = refl
+  through_append a (b ∷ xs) ys =
+      then_same (next a b) (λ x. through next x (xs ++ ys)) (λ x. then (through next x xs) (λ z. through next z ys)) (λ x. through_append x xs ys) ∙ sym (then_then (next a b) (λ x. through next x xs) (λ z. through next z ys))
 
-  pub stop-append : (a : A) (xs ys : List ℕ) → stop next a (xs ++ ys) ≡ after (stop next a xs) (λ x. stop next x ys)
-  stop-append a [] ys = sym (shift_none (stop next a ys))
-  stop-append a (b ∷ xs) ys = stop-or-same a (next a b) (λ x. stop next x (xs ++ ys)) (λ x. stop next x xs) (λ z. stop next z ys) (λ x. stop-append x xs ys)
+  pub stop_append : (a : A) (xs ys : List ℕ) → stop next a (xs ++ ys) ≡ after (stop next a xs) (λ x. stop next x ys)
+  stop_append a [] ys = sym (shift_none (stop next a ys))
+  stop_append a (b ∷ xs) ys = stop_or_same a (next a b) (λ x. stop next x (xs ++ ys)) (λ x. stop next x xs) (λ z. stop next z ys) (λ x. stop_append x xs ys)
 
   -- A text that is run through is all passed.
-  pub stop-through : (a : A) (xs : List ℕ) (x : A) → through next a xs ≡ Some x → stop next a xs ≡ record { passed = length xs; at = x; stopped = false }
-  stop-through a [] x e = let same : a ≡ x = cc in ap (λ z. stop-of 0 z false) same
-  stop-through a (b ∷ xs) x e = on (next a b) (λ z h. stop-through z xs x h) e
+  pub stop_through : (a : A) (xs : List ℕ) (x : A) → through next a xs ≡ Some x → stop next a xs ≡ record { passed = length xs; at = x; stopped = false }
+  stop_through a [] x e = let same : a ≡ x = cc in ap (λ z. stop_of 0 z false) same
+  stop_through a (b ∷ xs) x e = on (next a b) (λ z h. stop_through z xs x h) e
     where
-      on : (o : Option A) → ((z : A) → through next z xs ≡ Some x → stop next z xs ≡ stop-of (length xs) x false) → then o (λ z. through next z xs) ≡ Some x → stop-or a o (λ z. stop next z xs) ≡ stop-of (suc (length xs)) x false
+      on : (o : Option A) → ((z : A) → through next z xs ≡ Some x → stop next z xs ≡ stop_of (length xs) x false) → then o (λ z. through next z xs) ≡ Some x → stop_or a o (λ z. stop next z xs) ≡ stop_of (suc (length xs)) x false
       on None h f = let z : ◌≡◌ {A = ℕ} 0 1 = cc in absurd (omega arith)
-      on (Some z) h f = ap (shifted 1) (h z f) ∙ ap (λ n. stop-of n x false) (omega arith)
+      on (Some z) h f = ap (shifted 1) (h z f) ∙ ap (λ n. stop_of n x false) (omega arith)
 
   pub stops_at : (a : A) (xs : List ℕ) → StopsAt next a xs (stop next a xs)
-  stops_at a [] = record { within = omega arith; runs = refl; before-byte = λ h. let z : ◌≡◌ {A = ℕ} 0 1 = cc in absurd (omega arith); at-end = λ h. refl }
+  stops_at a [] = record { within = omega arith; runs = refl; before_byte = λ h. let z : ◌≡◌ {A = ℕ} 0 1 = cc in absurd (omega arith); at_end = λ h. refl }
   stops_at a (b ∷ xs) = on (next a b) refl (λ x. stops_at x xs)
     where
-      on : (o : Option A) → next a b ≡ o → ((x : A) → StopsAt next x xs (stop next x xs)) → StopsAt next a (b ∷ xs) (stop-or a o (λ x. stop next x xs))
-      on None e h = record { within = omega arith; runs = refl; before-byte = λ k. (omega arith, e); at-end = λ k. let z : ◌≡◌ {A = ℕ} 0 1 = cc in absurd (omega arith) }
+      on : (o : Option A) → next a b ≡ o → ((x : A) → StopsAt next x xs (stop next x xs)) → StopsAt next a (b ∷ xs) (stop_or a o (λ x. stop next x xs))
+      on None e h = record { within = omega arith; runs = refl; before_byte = λ k. (omega arith, e); at_end = λ k. let z : ◌≡◌ {A = ℕ} 0 1 = cc in absurd (omega arith) }
       on (Some x) e h =
           let s = stop next x xs in
           let rest = h x in
@@ -65,35 +65,35 @@ module _ {A : Type 0} (next : A → ℕ → Option A) where
           record {
             within = omega (arith, rest.within);
             runs = ap (through next a) step ∙ ap (λ o. then o (λ z. through next z (take s.passed xs))) e ∙ rest.runs;
-            before-byte = λ k. (omega (arith, (rest.before-byte k).0), ap (next s.at) here ∙ (rest.before-byte k).1);
-            at-end = λ k. omega (arith, rest.at-end k);
+            before_byte = λ k. (omega (arith, (rest.before_byte k).0), ap (next s.at) here ∙ (rest.before_byte k).1);
+            at_end = λ k. omega (arith, rest.at_end k);
           }
 
   -- A loop over a text: `whole` is the search from the start, which has come to place i with the value a.
   module _ (xs : List ℕ) (whole : Stop A) (i : ℕ) (a : A) (so_far : whole ≡ shifted i (stop next a (drop i xs))) where
-    pub stops-here : i < length xs → next a (get_or xs i 0) ≡ None → record { passed = i; at = a; stopped = true } ≡ whole
-    stops-here h e =
-        sym (so_far ∙ ap (λ l. shifted i (stop next a l)) (drop_more xs i 0 h) ∙ ap (λ o. shifted i (stop-or a o (λ x. stop next x (drop (i + 1) xs)))) e ∙ ap (λ n. stop-of n a true) (add-zero i))
+    pub stops_here : i < length xs → next a (get_or xs i 0) ≡ None → record { passed = i; at = a; stopped = true } ≡ whole
+    stops_here h e =
+        sym (so_far ∙ ap (λ l. shifted i (stop next a l)) (drop_more xs i 0 h) ∙ ap (λ o. shifted i (stop_or a o (λ x. stop next x (drop (i + 1) xs)))) e ∙ ap (λ n. stop_of n a true) (add-zero i))
 
     pub goes_on : i < length xs → (x : A) → next a (get_or xs i 0) ≡ Some x → whole ≡ shifted (i + 1) (stop next x (drop (i + 1) xs))
     goes_on h x e =
         let s = stop next x (drop (i + 1) xs) in
-        so_far ∙ ap (λ l. shifted i (stop next a l)) (drop_more xs i 0 h) ∙ ap (λ o. shifted i (stop-or a o (λ z. stop next z (drop (i + 1) xs)))) e ∙ ap (λ n. stop-of n s.at s.stopped) (sym (add_assoc i 1 s.passed))
+        so_far ∙ ap (λ l. shifted i (stop next a l)) (drop_more xs i 0 h) ∙ ap (λ o. shifted i (stop_or a o (λ z. stop next z (drop (i + 1) xs)))) e ∙ ap (λ n. stop_of n s.at s.stopped) (sym (add_assoc i 1 s.passed))
 
-    pub ran-through : i ≡ length xs → record { passed = length xs; at = a; stopped = false } ≡ whole
-    ran-through e =
-        sym (so_far ∙ ap (λ l. shifted i (stop next a l)) (drop_all i xs (omega arith)) ∙ ap (λ n. stop-of n a false) (add-zero i ∙ e))
+    pub ran_through : i ≡ length xs → record { passed = length xs; at = a; stopped = false } ≡ whole
+    ran_through e =
+        sym (so_far ∙ ap (λ l. shifted i (stop next a l)) (drop_all i xs (omega arith)) ∙ ap (λ n. stop_of n a false) (add-zero i ∙ e))
 
   -- A search that stops in the first text has stopped in both; one that does not goes on behind it.
-  pub stops-before : (a : A) (xs ys : List ℕ) (s : Stop A) → s ≡ stop next a xs → s.stopped ≡ true → s ≡ stop next a (xs ++ ys)
-  stops-before a xs ys s e stopped =
+  pub stops_before : (a : A) (xs ys : List ℕ) (s : Stop A) → s ≡ stop next a xs → s.stopped ≡ true → s ≡ stop next a (xs ++ ys)
+  stops_before a xs ys s e stopped =
       let first = stop next a xs in
       let halts : first.stopped ≡ true = sym (ap (λ z. z.stopped) e) ∙ stopped in
-      e ∙ sym (stop-append a xs ys ∙ cond-true first.stopped first (shifted first.passed (stop next first.at ys)) halts)
+      e ∙ sym (stop_append a xs ys ∙ cond-true first.stopped first (shifted first.passed (stop next first.at ys)) halts)
 
-  pub goes-behind : (a : A) (xs ys : List ℕ) (s : Stop A) → s ≡ stop next a xs → s.stopped ≡ false → shifted s.passed (stop next s.at ys) ≡ stop next a (xs ++ ys)
-  goes-behind a xs ys s e running =
+  pub goes_behind : (a : A) (xs ys : List ℕ) (s : Stop A) → s ≡ stop next a xs → s.stopped ≡ false → shifted s.passed (stop next s.at ys) ≡ stop next a (xs ++ ys)
+  goes_behind a xs ys s e running =
       let first = stop next a xs in
       let runs : first.stopped ≡ false = sym (ap (λ z. z.stopped) e) ∙ running in
       ap (λ z. shifted z.passed (stop next z.at ys)) e
-      ∙ sym (stop-append a xs ys ∙ cond-false first.stopped first (shifted first.passed (stop next first.at ys)) runs)
+      ∙ sym (stop_append a xs ys ∙ cond-false first.stopped first (shifted first.passed (stop next first.at ys)) runs)

@@ -15,6 +15,6 @@ leftwards s None = record { passed = s.passed; at = s.at; stopped = true }
 leftwards s (Some x) = record { passed = s.passed + 1; at = x; stopped = false }
 
 -- Where the search comes to in bytes that begin in the forward state f: `passed` counts from behind.
-abbrev pub back-stop : {F A : Type 0} → (F → ℕ → F) → (F → ℕ → A → Option A) → F → List ℕ → A → Stop A
-back-stop fore prev f [] a = record { passed = 0; at = a; stopped = false }
-back-stop fore prev f (b ∷ bs) a = let s = back-stop fore prev (fore f b) bs a in cond s.stopped s (leftwards s (prev f b s.at))
+abbrev pub back_stop : {F A : Type 0} → (F → ℕ → F) → (F → ℕ → A → Option A) → F → List ℕ → A → Stop A
+back_stop fore prev f [] a = record { passed = 0; at = a; stopped = false }
+back_stop fore prev f (b ∷ bs) a = let s = back_stop fore prev (fore f b) bs a in cond s.stopped s (leftwards s (prev f b s.at))

@@ -17,14 +17,14 @@ module _ {A : Type 0} where
   abbrev pub shifted : ℕ → Stop A → Stop A
   shifted n s = record { passed = n + s.passed; at = s.at; stopped = s.stopped }
 
-  abbrev pub stop-or : A → Option A → (A → Stop A) → Stop A
-  stop-or a None go = record { passed = 0; at = a; stopped = true }
-  stop-or a (Some x) go = shifted 1 (go x)
+  abbrev pub stop_or : A → Option A → (A → Stop A) → Stop A
+  stop_or a None go = record { passed = 0; at = a; stopped = true }
+  stop_or a (Some x) go = shifted 1 (go x)
 
   -- Where the search comes to in bytes: as far as it runs.
   abbrev pub stop : (A → ℕ → Option A) → A → List ℕ → Stop A
   stop next a [] = record { passed = 0; at = a; stopped = false }
-  stop next a (b ∷ bs) = stop-or a (next a b) (λ x. stop next x bs)
+  stop next a (b ∷ bs) = stop_or a (next a b) (λ x. stop next x bs)
 
   -- A search that did not stop goes on.
   abbrev pub after : Stop A → (A → Stop A) → Stop A
@@ -34,5 +34,5 @@ module _ {A : Type 0} where
   pub record StopsAt (next : A → ℕ → Option A) (a : A) (bytes : List ℕ) (s : Stop A) : Type 0 where
     pub within : s.passed ≤ length bytes
     pub runs : through next a (take s.passed bytes) ≡ Some s.at
-    pub before-byte : s.stopped ≡ true → (s.passed < length bytes) × (next s.at (slice_index bytes s.passed) ≡ None)
-    pub at-end : s.stopped ≡ false → s.passed ≡ length bytes
+    pub before_byte : s.stopped ≡ true → (s.passed < length bytes) × (next s.at (slice_index bytes s.passed) ≡ None)
+    pub at_end : s.stopped ≡ false → s.passed ≡ length bytes

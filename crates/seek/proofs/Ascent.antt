@@ -5,77 +5,77 @@ use Rattle.std.proofs.lemmas.Bool.{cases_lt}
 use Rattle.chunks.specs.Tree.{Tree, node}
 use Rattle.search.specs.declared.stop.Stop.{Stop}
 use Rattle.search.specs.Forwards.{shifted}
-use Rattle.search.specs.Backwards.{forwards, back-stop}
-use Rattle.search.proofs.Backwards.{forwards-append, stops-behind, goes_before, state-behind, back-few}
+use Rattle.search.specs.Backwards.{forwards, back_stop}
+use Rattle.search.proofs.Backwards.{forwards_append, stops_behind, goes_before, state_behind, back_few}
 use Rattle.measure.specs.Measure.{Measure}
 use Rattle.slots.specs.Claim.{kept}
 use Rattle.slots.specs.Holds.{Holds}
 use Rattle.slots.specs.Split.{Held}
 use Rattle.slots.specs.View.{text_of, chunk_of, size_of}
-use Rattle.slots.proofs.Text.{chunk-length}
+use Rattle.slots.proofs.Text.{chunk_length}
 use Rattle.slots.specs.declared.memory.Memory.{Memory}
-use Rattle.seek.proofs.Kept.{text-parts, Opened, kept-left, kept-right}
-use Rattle.seek.proofs.Descent.{text-few}
+use Rattle.seek.proofs.Kept.{text_parts, Opened, kept_left, kept_right}
+use Rattle.seek.proofs.Descent.{text_few}
 
 -- A place behind the end of a list is as good as the end.
-pub take-capped : (n k : ℕ) (xs : List ℕ) → k ≡ min n (length xs) → take (k - 0) xs ≡ take n xs
-take-capped n k xs e =
+pub take_capped : (n k : ℕ) (xs : List ℕ) → k ≡ min n (length xs) → take (k - 0) xs ≡ take n xs
+take_capped n k xs e =
     ⊎_elim (λ h. let same : k - 0 ≡ n = omega arith in ap (λ j. take j xs) same) (λ h. take_all (k - 0) xs (omega arith) ∙ sym (take_all n xs h)) (cases_lt n (length xs))
 
 -- What lies before a place in two lists is what lies before it in the first, and before what is left of it in the second.
-take-parts : (n : ℕ) (xs ys : List ℕ) → take n (xs ++ ys) ≡ take n xs ++ take (n - length xs) ys
-take-parts zero xs ys = let none : 0 - length xs ≡ 0 = omega arith in ap (λ k. take k ys) (sym none)
-take-parts (suc n) [] ys = let all : suc n - 0 ≡ suc n = omega arith in ap (λ k. take k ys) (sym all)
-take-parts (suc n) (x ∷ xs) ys = let less : n - length xs ≡ suc n - suc (length xs) = omega arith in ap (λ l. x ∷ l) (take-parts n xs ys ∙ ap (λ k. take n xs ++ take k ys) less)
+take_parts : (n : ℕ) (xs ys : List ℕ) → take n (xs ++ ys) ≡ take n xs ++ take (n - length xs) ys
+take_parts zero xs ys = let none : 0 - length xs ≡ 0 = omega arith in ap (λ k. take k ys) (sym none)
+take_parts (suc n) [] ys = let all : suc n - 0 ≡ suc n = omega arith in ap (λ k. take k ys) (sym all)
+take_parts (suc n) (x ∷ xs) ys = let less : n - length xs ≡ suc n - suc (length xs) = omega arith in ap (λ l. x ∷ l) (take_parts n xs ys ∙ ap (λ k. take n xs ++ take k ys) less)
 
 module _ {R : Type 0} (m : Memory R) (t l : Tree) (i : ℕ) (r : Tree) (is : t ≡ node l i r) (place before behind : ℕ) (e : before ≡ length (text_of m l)) (g : behind ≡ before + length (chunk_of m i)) where
   both : length (text_of m l ++ chunk_of m i) ≡ behind
   both = length-append (text_of m l) (chunk_of m i) ∙ omega arith
 
   front : take place (text_of m l ++ chunk_of m i) ≡ take place (text_of m l) ++ take (place - before) (chunk_of m i)
-  front = take-parts place (text_of m l) (chunk_of m i) ∙ ap (λ k. take place (text_of m l) ++ take (place - k) (chunk_of m i)) (sym e)
+  front = take_parts place (text_of m l) (chunk_of m i) ∙ ap (λ k. take place (text_of m l) ++ take (place - k) (chunk_of m i)) (sym e)
 
   -- The text under a slot up to a place: on the left, in its own chunk, on the right.
-  pub parts-before : take place (text_of m t) ≡ take place (text_of m l) ++ (take (place - before) (chunk_of m i) ++ take (place - behind) (text_of m r))
-  parts-before =
+  pub parts_before : take place (text_of m t) ≡ take place (text_of m l) ++ (take (place - before) (chunk_of m i) ++ take (place - behind) (text_of m r))
+  parts_before =
       let cs = chunk_of m i in
       let ys = text_of m r in
-      ap (take place) (text-parts m t l i r is)
-      ∙ take-parts place (text_of m l ++ cs) ys
+      ap (take place) (text_parts m t l i r is)
+      ∙ take_parts place (text_of m l ++ cs) ys
       ∙ ap (λ k. take place (text_of m l ++ cs) ++ take (place - k) ys) both
       ∙ ap (λ z. z ++ take (place - behind) ys) front
       ∙ append_assoc (take place (text_of m l)) (take (place - before) cs) (take (place - behind) ys)
 
   -- The forward states before the parts, from those behind the whole of what lies before them.
   module _ {F A : Type 0} (fore : F → ℕ → F) (back : F → ℕ → A → Option A) (f : F) where
-    pub state-own : (a : A) → back-stop fore back (forwards fore f (text_of m l)) (take (place - before) (chunk_of m i)) a ≡ back-stop fore back (forwards fore f (take place (text_of m l))) (take (place - before) (chunk_of m i)) a
-    state-own a =
+    pub state_own : (a : A) → back_stop fore back (forwards fore f (text_of m l)) (take (place - before) (chunk_of m i)) a ≡ back_stop fore back (forwards fore f (take place (text_of m l))) (take (place - before) (chunk_of m i)) a
+    state_own a =
         let cs = chunk_of m i in
-        ap (λ k. back-stop fore back (forwards fore f (text_of m l)) (take (place - k) cs) a) e
-        ∙ state-behind fore back f place (text_of m l) cs a
-        ∙ ap (λ k. back-stop fore back (forwards fore f (take place (text_of m l))) (take (place - k) cs) a) (sym e)
+        ap (λ k. back_stop fore back (forwards fore f (text_of m l)) (take (place - k) cs) a) e
+        ∙ state_behind fore back f place (text_of m l) cs a
+        ∙ ap (λ k. back_stop fore back (forwards fore f (take place (text_of m l))) (take (place - k) cs) a) (sym e)
 
-    pub state-right : (a : A) → back-stop fore back (forwards fore (forwards fore f (text_of m l)) (chunk_of m i)) (take (place - behind) (text_of m r)) a ≡ back-stop fore back (forwards fore (forwards fore f (take place (text_of m l))) (take (place - before) (chunk_of m i))) (take (place - behind) (text_of m r)) a
-    state-right a =
+    pub state_right : (a : A) → back_stop fore back (forwards fore (forwards fore f (text_of m l)) (chunk_of m i)) (take (place - behind) (text_of m r)) a ≡ back_stop fore back (forwards fore (forwards fore f (take place (text_of m l))) (take (place - before) (chunk_of m i))) (take (place - behind) (text_of m r)) a
+    state_right a =
         let xs = text_of m l in
         let cs = chunk_of m i in
         let ys = text_of m r in
-        let at : F → List ℕ → Stop A = λ z l. back-stop fore back z l a in
-        ap (λ z. at z (take (place - behind) ys)) (sym (forwards-append fore f xs cs))
+        let at : F → List ℕ → Stop A = λ z l. back_stop fore back z l a in
+        ap (λ z. at z (take (place - behind) ys)) (sym (forwards_append fore f xs cs))
         ∙ ap (λ k. at (forwards fore f (xs ++ cs)) (take (place - k) ys)) (sym both)
-        ∙ state-behind fore back f place (xs ++ cs) ys a
+        ∙ state_behind fore back f place (xs ++ cs) ys a
         ∙ ap (λ k. at (forwards fore f (take place (xs ++ cs))) (take (place - k) ys)) both
         ∙ ap (λ z. at (forwards fore f z) (take (place - behind) ys)) front
-        ∙ ap (λ z. at z (take (place - behind) ys)) (forwards-append fore f (take place xs) (take (place - before) cs))
+        ∙ ap (λ z. at z (take (place - behind) ys)) (forwards_append fore f (take place xs) (take (place - before) cs))
 
 -- What a search through a tree's text from a place back came to: within it, and where it should, as long as the readings are kept.
-pub record Found-back {R F A : Type 0} (m : Memory R) (μ : Measure R) (fore : F → ℕ → F) (back : F → ℕ → A → Option A) (f : F) (place : ℕ) (a : A) (t : Tree) (s : Stop A) : Type 0 where
+pub record FoundBack {R F A : Type 0} (m : Memory R) (μ : Measure R) (fore : F → ℕ → F) (back : F → ℕ → A → Option A) (f : F) (place : ℕ) (a : A) (t : Tree) (s : Stop A) : Type 0 where
   pub within : s.passed ≤ length (take place (text_of m t))
-  pub finds : Holds (kept μ) m t → s ≡ back-stop fore back f (take place (text_of m t)) a
+  pub finds : Holds (kept μ) m t → s ≡ back_stop fore back f (take place (text_of m t)) a
 
 -- A search under slot i, step by step, as it is said of every tree that memory may hold there: `inner` and `outer` are the
 -- forward states before the slot's own chunk and behind it.
-module _ {R F A : Type 0} (m : Memory R) (μ : Measure R) (fore : F → ℕ → F) (back : F → ℕ → A → Option A) (f : F) (a : A) (place i : ℕ) (left right link : Option ℕ) (opens : (z : Tree) → Held m link z → Opened m i left right z) (before size : ℕ) (before-is : (z : Tree) → Held m left z → before ≡ length (text_of m z)) (size_is : size ≡ size_of m i) (inner outer : F) (inner-is : (z : Tree) → Held m left z → Holds (kept μ) m z → inner ≡ forwards fore f (text_of m z)) (outer-is : outer ≡ forwards fore inner (chunk_of m i)) (beyond : ℕ) (beyond-is : beyond ≡ place - (before + size)) (rest : Stop A) (on-right : (z : Tree) → Held m right z → Found-back m μ fore back outer beyond a z rest) where
+module _ {R F A : Type 0} (m : Memory R) (μ : Measure R) (fore : F → ℕ → F) (back : F → ℕ → A → Option A) (f : F) (a : A) (place i : ℕ) (left right link : Option ℕ) (opens : (z : Tree) → Held m link z → Opened m i left right z) (before size : ℕ) (before-is : (z : Tree) → Held m left z → before ≡ length (text_of m z)) (size_is : size ≡ size_of m i) (inner outer : F) (inner-is : (z : Tree) → Held m left z → Holds (kept μ) m z → inner ≡ forwards fore f (text_of m z)) (outer-is : outer ≡ forwards fore inner (chunk_of m i)) (beyond : ℕ) (beyond-is : beyond ≡ place - (before + size)) (rest : Stop A) (on_right : (z : Tree) → Held m right z → FoundBack m μ fore back outer beyond a z rest) where
   module _ (z : Tree) (held : Held m link z) where
     abbrev o : Opened m i left right z
     o = opens z held
@@ -93,75 +93,75 @@ module _ {R F A : Type 0} (m : Memory R) (μ : Measure R) (fore : F → ℕ → 
     ys = take (place - (before + size)) (text_of m o.r)
 
     starts : before ≡ length (text_of m o.l)
-    starts = before-is o.l o.left-held
+    starts = before-is o.l o.left_held
 
     ends : before + size ≡ before + length (chunk_of m i)
-    ends = ap (λ n. before + n) (size_is ∙ sym (chunk-length m held.roomy i o.known o.few_bytes))
+    ends = ap (λ n. before + n) (size_is ∙ sym (chunk_length m held.roomy i o.known o.few_bytes))
 
     parts : whole ≡ xs ++ (cs ++ ys)
-    parts = parts-before m z o.l i o.r o.is place before (before + size) starts ends
+    parts = parts_before m z o.l i o.r o.is place before (before + size) starts ends
 
     long : length whole ≡ length xs + (length cs + length ys)
     long = ap length parts ∙ length-append xs (cs ++ ys) ∙ ap (λ n. length xs + n) (length-append cs ys)
 
     known : Holds (kept μ) m z → inner ≡ forwards fore f (text_of m o.l)
-    known k = inner-is o.l o.left-held (kept-left μ o k)
+    known k = inner-is o.l o.left_held (kept_left μ o k)
 
-    rest-short : rest.passed ≤ length ys
-    rest-short = subst (λ n. rest.passed ≤ length (take n (text_of m o.r))) beyond-is (on-right o.r o.right-held).within
+    rest_short : rest.passed ≤ length ys
+    rest_short = subst (λ n. rest.passed ≤ length (take n (text_of m o.r))) beyond-is (on_right o.r o.right_held).within
 
-    rest-finds : Holds (kept μ) m z → rest ≡ back-stop fore back (forwards fore (forwards fore f xs) cs) ys a
-    rest-finds k =
-        (on-right o.r o.right-held).finds (kept-right μ o k)
-        ∙ ap (λ n. back-stop fore back outer (take n (text_of m o.r)) a) beyond-is
-        ∙ ap (λ s. back-stop fore back s ys a) (outer-is ∙ ap (λ s. forwards fore s (chunk_of m i)) (known k))
-        ∙ state-right m z o.l i o.r o.is place before (before + size) starts ends fore back f a
+    rest_finds : Holds (kept μ) m z → rest ≡ back_stop fore back (forwards fore (forwards fore f xs) cs) ys a
+    rest_finds k =
+        (on_right o.r o.right_held).finds (kept_right μ o k)
+        ∙ ap (λ n. back_stop fore back outer (take n (text_of m o.r)) a) beyond-is
+        ∙ ap (λ s. back_stop fore back s ys a) (outer-is ∙ ap (λ s. forwards fore s (chunk_of m i)) (known k))
+        ∙ state_right m z o.l i o.r o.is place before (before + size) starts ends fore back f a
 
-    pub stopped-right : rest.stopped ≡ true → Found-back m μ fore back f place a z rest
-    stopped-right stopped = record {
-      within = omega (arith, rest-short, long);
+    pub stopped_right : rest.stopped ≡ true → FoundBack m μ fore back f place a z rest
+    stopped_right stopped = record {
+      within = omega (arith, rest_short, long);
       finds = λ k.
-          let found = stops-behind fore back (forwards fore f xs) cs ys a rest (rest-finds k) stopped in
-          stops-behind fore back f xs (cs ++ ys) a rest found stopped ∙ ap (λ l. back-stop fore back f l a) (sym parts);
+          let found = stops_behind fore back (forwards fore f xs) cs ys a rest (rest_finds k) stopped in
+          stops_behind fore back f xs (cs ++ ys) a rest found stopped ∙ ap (λ l. back_stop fore back f l a) (sym parts);
     }
 
-  module _ (running : rest.stopped ≡ false) (within : ℕ) (within-is : within ≡ place - before) (inside : Stop A) (inside_is : inside ≡ back-stop fore back inner (take within (chunk_of m i)) rest.at) where
-    here : inside ≡ back-stop fore back inner (take (place - before) (chunk_of m i)) rest.at
-    here = inside_is ∙ ap (λ n. back-stop fore back inner (take n (chunk_of m i)) rest.at) within-is
+  module _ (running : rest.stopped ≡ false) (within : ℕ) (within-is : within ≡ place - before) (inside : Stop A) (inside_is : inside ≡ back_stop fore back inner (take within (chunk_of m i)) rest.at) where
+    here : inside ≡ back_stop fore back inner (take (place - before) (chunk_of m i)) rest.at
+    here = inside_is ∙ ap (λ n. back_stop fore back inner (take n (chunk_of m i)) rest.at) within-is
 
-    own-short : (z : Tree) (held : Held m link z) → rest.passed + inside.passed ≤ length (cs z held) + length (ys z held)
-    own-short z held = omega (arith, ap (λ s. s.passed) here, back-few fore back inner (take (place - before) (chunk_of m i)) rest.at, rest-short z held)
+    own_short : (z : Tree) (held : Held m link z) → rest.passed + inside.passed ≤ length (cs z held) + length (ys z held)
+    own_short z held = omega (arith, ap (λ s. s.passed) here, back_few fore back inner (take (place - before) (chunk_of m i)) rest.at, rest_short z held)
 
     -- All that is passed lies in the text, which is short.
-    pub own-fits : (z : Tree) → Held m link z → rest.passed + inside.passed < 2 ^ 64
-    own-fits z held = omega (arith, own-short z held, long z held, length-take place (text_of m z), text-few m link z held)
+    pub own_fits : (z : Tree) → Held m link z → rest.passed + inside.passed < 2 ^ 64
+    own_fits z held = omega (arith, own_short z held, long z held, length-take place (text_of m z), text_few m link z held)
 
     module _ (own : Stop A) (own_is : own ≡ shifted rest.passed inside) where
-      own-finds : (z : Tree) (held : Held m link z) → Holds (kept μ) m z → own ≡ back-stop fore back (forwards fore f (xs z held)) (cs z held ++ ys z held) a
-      own-finds z held k =
+      own_finds : (z : Tree) (held : Held m link z) → Holds (kept μ) m z → own ≡ back_stop fore back (forwards fore f (xs z held)) (cs z held ++ ys z held) a
+      own_finds z held k =
           let o = opens z held in
-          let found = here ∙ ap (λ s. back-stop fore back s (cs z held) rest.at) (known z held k) ∙ state-own m z o.l i o.r o.is place before (before + size) (starts z held) (ends z held) fore back f rest.at in
-          own_is ∙ ap (shifted rest.passed) found ∙ goes_before fore back (forwards fore f (xs z held)) (cs z held) (ys z held) a rest (rest-finds z held k) running
+          let found = here ∙ ap (λ s. back_stop fore back s (cs z held) rest.at) (known z held k) ∙ state_own m z o.l i o.r o.is place before (before + size) (starts z held) (ends z held) fore back f rest.at in
+          own_is ∙ ap (shifted rest.passed) found ∙ goes_before fore back (forwards fore f (xs z held)) (cs z held) (ys z held) a rest (rest_finds z held k) running
 
-      pub stopped-inside : own.stopped ≡ true → (z : Tree) → Held m link z → Found-back m μ fore back f place a z own
-      stopped-inside stopped z held = record {
-        within = omega (arith, ap (λ s. s.passed) own_is, own-short z held, long z held);
-        finds = λ k. stops-behind fore back f (xs z held) (cs z held ++ ys z held) a own (own-finds z held k) stopped ∙ ap (λ l. back-stop fore back f l a) (sym (parts z held));
+      pub stopped_inside : own.stopped ≡ true → (z : Tree) → Held m link z → FoundBack m μ fore back f place a z own
+      stopped_inside stopped z held = record {
+        within = omega (arith, ap (λ s. s.passed) own_is, own_short z held, long z held);
+        finds = λ k. stops_behind fore back f (xs z held) (cs z held ++ ys z held) a own (own_finds z held k) stopped ∙ ap (λ l. back_stop fore back f l a) (sym (parts z held));
       }
 
-      module _ (goes : own.stopped ≡ false) (first : Stop A) (on-left : (z : Tree) → Held m left z → Found-back m μ fore back f place own.at z first) where
-        pub found_all : (all : Stop A) → all ≡ shifted own.passed first → (z : Tree) → Held m link z → Found-back m μ fore back f place a z all
+      module _ (goes : own.stopped ≡ false) (first : Stop A) (on-left : (z : Tree) → Held m left z → FoundBack m μ fore back f place own.at z first) where
+        pub found_all : (all : Stop A) → all ≡ shifted own.passed first → (z : Tree) → Held m link z → FoundBack m μ fore back f place a z all
         found_all all all-is z held =
             let o = opens z held in
-            let found = on-left o.l o.left-held in
+            let found = on-left o.l o.left_held in
             record {
-              within = omega (arith, ap (λ s. s.passed) all-is, ap (λ s. s.passed) own_is, own-short z held, long z held, found.within);
+              within = omega (arith, ap (λ s. s.passed) all-is, ap (λ s. s.passed) own_is, own_short z held, long z held, found.within);
               finds = λ k.
                   all-is
-                  ∙ ap (shifted own.passed) (found.finds (kept-left μ o k))
-                  ∙ goes_before fore back f (xs z held) (cs z held ++ ys z held) a own (own-finds z held k) goes
-                  ∙ ap (λ l. back-stop fore back f l a) (sym (parts z held));
+                  ∙ ap (shifted own.passed) (found.finds (kept_left μ o k))
+                  ∙ goes_before fore back f (xs z held) (cs z held ++ ys z held) a own (own_finds z held k) goes
+                  ∙ ap (λ l. back_stop fore back f l a) (sym (parts z held));
             }
 
-        pub all-fits : (z : Tree) → Held m link z → own.passed + first.passed < 2 ^ 64
-        all-fits z held = omega (arith, (found_all (shifted own.passed first) refl z held).within, length-take place (text_of m z), text-few m link z held)
+        pub all_fits : (z : Tree) → Held m link z → own.passed + first.passed < 2 ^ 64
+        all_fits z held = omega (arith, (found_all (shifted own.passed first) refl z held).within, length-take place (text_of m z), text_few m link z held)

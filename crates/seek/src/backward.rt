@@ -1,7 +1,7 @@
 // The interface of a search from right to left. Each byte is seen with a state that runs forwards before it,
 // while a small value is taken over bytes, or over whole texts by their readings, from behind.
 ghost use Rattle.std.specs.Prelude.{◌≡◌, ℕ, List, Option};
-ghost use Rattle.measure.specs.Measure.{Measure, reading as reading-of};
+ghost use Rattle.measure.specs.Measure.{Measure, reading as reading_of};
 ghost use Rattle.search.specs.Backwards.{forwards};
 ghost use Rattle.seek.specs.Passes.{PassesBack};
 
@@ -25,7 +25,7 @@ pub trait Backward {
         ensures { result ≡ fore self.now state byte };
 
     fn ahead_over(&self, state: Self::Fore, reading: &Self::Reading) -> Self::Fore
-        ensures { (text : List ℕ) → reading.now ≡ reading-of (scale self.now) text → result ≡ forwards (fore self.now) state text };
+        ensures { (text : List ℕ) → reading.now ≡ reading_of (scale self.now) text → result ≡ forwards (fore self.now) state text };
 
     // The value before a byte, or nothing where the search stops behind it.
     fn prev(&self, state: Self::Fore, byte: u8, at: Self::At) -> Option<Self::At>
@@ -38,5 +38,5 @@ pub trait Backward {
         reading: &Self::Reading,
         at: Self::At,
     ) -> Option<Self::At>
-        ensures { (text : List ℕ) → reading.now ≡ reading-of (scale self.now) text → PassesBack (fore self.now) (back self.now) state text at result };
+        ensures { (text : List ℕ) → reading.now ≡ reading_of (scale self.now) text → PassesBack (fore self.now) (back self.now) state text at result };
 }

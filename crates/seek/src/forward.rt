@@ -1,6 +1,6 @@
 // The interface of a search from left to right: a small value, taken over a byte, or over a whole text by its reading.
 ghost use Rattle.std.specs.Prelude.{◌≡◌, ℕ, List, Option};
-ghost use Rattle.measure.specs.Measure.{Measure, reading as reading-of};
+ghost use Rattle.measure.specs.Measure.{Measure, reading as reading_of};
 ghost use Rattle.seek.specs.Passes.{Passes};
 
 pub trait Forward {
@@ -20,5 +20,5 @@ pub trait Forward {
 
     // The value behind a text, from its reading; nothing where one has to look inside.
     fn pass(&self, at: Self::At, reading: &Self::Reading) -> Option<Self::At>
-        ensures { (text : List ℕ) → reading.now ≡ reading-of (scale self.now) text → Passes (goes self.now) at text result };
+        ensures { (text : List ℕ) → reading.now ≡ reading_of (scale self.now) text → Passes (goes self.now) at text result };
 }

@@ -1,4 +1,7 @@
 // Searches through a tree's text, over whole subtrees by their readings: from a place on, and from a place back.
+
+#![tactic(auto)]
+
 pub mod backward;
 pub mod forward;
 pub mod seek_back;

@@ -1,8 +1,8 @@
 // A search from right to left through the text of a tree, over whole subtrees by their readings.
 ghost use Rattle.std.specs.Prelude.{◌≡◌, ℕ, ◌<◌, ◌≤◌, true, List, length, take, is_some, slice_index_or};
 ghost use Rattle.chunks.specs.Tree.{Tree};
-ghost use Rattle.measure.specs.Measure.{reading as reading-of};
-ghost use Rattle.search.specs.Backwards.{forwards, back-stop};
+ghost use Rattle.measure.specs.Measure.{reading as reading_of};
+ghost use Rattle.search.specs.Backwards.{forwards, back_stop};
 ghost use Rattle.slots.specs.Claim.{kept};
 ghost use Rattle.slots.specs.Holds.{Holds};
 ghost use Rattle.slots.specs.Sound.{Sound, Kept, tree_of};
@@ -47,7 +47,7 @@ fn seek_own_back<R: Copy, S: Backward<Reading = R>>(
     at: S::At,
 ) -> Stop<S::At>
     requires { (Roomy memory.now) × ((i < memory.now.usable) × (size_of memory.now i ≤ 64)) }
-    ensures { result ≡ back-stop (S.fore search.now) (S.back search.now) state (take place (chunk_of memory.now i)) at }
+    ensures { result ≡ back_stop (S.fore search.now) (S.back search.now) state (take place (chunk_of memory.now i)) at }
 {
     let bytes = chunk(memory, i);
     let to = place.min(bytes.len());
@@ -64,7 +64,7 @@ fn pass_back_under<R: Copy, S: Backward<Reading = R>>(
     at: S::At,
 ) -> Option<S::At>
     requires { (Roomy memory.now) × (i < memory.now.usable) }
-    ensures passes { (text : List ℕ) → ((d : R) → slice_index_or memory.now.readings.now i d ≡ reading-of (S.scale search.now) text) → PassesBack (S.fore search.now) (S.back search.now) state text at result }
+    ensures passes { (text : List ℕ) → ((d : R) → slice_index_or memory.now.readings.now i d ≡ reading_of (S.scale search.now) text) → PassesBack (S.fore search.now) (S.back search.now) state text at result }
     ensures only { is_some result ≡ true → whole ≡ true }
 {
     if !whole {
@@ -85,7 +85,7 @@ pub fn seek_back<R: Copy, S: Backward<Reading = R>>(
 ) -> Stop<S::At>
     requires { (t : Tree) × Held memory.now link t }
     ensures within { (t : Tree) → Held memory.now link t → result.passed ≤ length (take place (text_of memory.now t)) }
-    ensures finds { (t : Tree) → Held memory.now link t → Holds (kept (S.scale search.now)) memory.now t → result ≡ back-stop (S.fore search.now) (S.back search.now) state (take place (text_of memory.now t)) at }
+    ensures finds { (t : Tree) → Held memory.now link t → Holds (kept (S.scale search.now)) memory.now t → result ≡ back_stop (S.fore search.now) (S.back search.now) state (take place (text_of memory.now t)) at }
 {
     let bytes = extent(memory, link).bytes as usize;
     let Some(i) = link else {
@@ -145,7 +145,7 @@ pub fn seek_backwards<R: Copy, S: Backward<Reading = R>>(
 ) -> Stop<S::At>
     requires { Sound memory.now link }
     ensures within { result.passed ≤ length (take place (text_of memory.now (tree_of memory.now link))) }
-    ensures finds { Kept (S.scale search.now) memory.now link → result ≡ back-stop (S.fore search.now) (S.back search.now) state (take place (text_of memory.now (tree_of memory.now link))) at }
+    ensures finds { Kept (S.scale search.now) memory.now link → result ≡ back_stop (S.fore search.now) (S.back search.now) state (take place (text_of memory.now (tree_of memory.now link))) at }
 {
     seek_back(search, memory, link, state, place, at)
 }

@@ -1,6 +1,6 @@
 // A search through a run of bytes from right to left: forwards to their end, and back again.
 ghost use Rattle.std.specs.Prelude.{◌≡◌};
-ghost use Rattle.search.specs.Backwards.{forwards, back-stop};
+ghost use Rattle.search.specs.Backwards.{forwards, back_stop};
 
 use crate::backward::Backward;
 use search::stop::Stop;
@@ -23,7 +23,7 @@ pub fn seek_bytes_back<S: Backward>(
     bytes: &[u8],
     at: S::At,
 ) -> Stop<S::At>
-    ensures { result ≡ back-stop (S.fore search.now) (S.back search.now) state bytes.now at }
+    ensures { result ≡ back_stop (S.fore search.now) (S.back search.now) state bytes.now at }
 {
     if bytes.len() == 0 {
         return Stop {

@@ -1,6 +1,6 @@
 // A search through the text of a tree: over whole subtrees by their readings, and inside only where it may stop.
 ghost use Rattle.std.specs.Prelude.{◌≡◌, ℕ, ◌+◌, ◌^◌, ◌<◌, ◌≤◌, false, List, length, drop, slice_index_or};
-ghost use Rattle.measure.specs.Measure.{reading as reading-of};
+ghost use Rattle.measure.specs.Measure.{reading as reading_of};
 ghost use Rattle.seek.specs.Passes.{Passes};
 ghost use Rattle.chunks.specs.Tree.{Tree};
 ghost use Rattle.search.specs.Forwards.{stop, shifted};
@@ -77,7 +77,7 @@ fn pass_under<R: Copy, S: Forward<Reading = R>>(
     at: S::At,
 ) -> Option<S::At>
     requires { (Roomy memory.now) × (i < memory.now.usable) }
-    ensures { (text : List ℕ) → ((d : R) → slice_index_or memory.now.readings.now i d ≡ reading-of (S.scale search.now) text) → Passes (S.goes search.now) at (drop place text) result }
+    ensures { (text : List ℕ) → ((d : R) → slice_index_or memory.now.readings.now i d ≡ reading_of (S.scale search.now) text) → Passes (S.goes search.now) at (drop place text) result }
 {
     if place > 0 {
         return None;

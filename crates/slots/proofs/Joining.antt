@@ -5,84 +5,84 @@ use Rattle.measure.specs.Measure.{Measure}
 use Rattle.chunks.specs.declared.side.Side.{Side}
 use Rattle.chunks.specs.Tree.{Tree, leaf, node, root, height, Level}
 use Rattle.chunks.specs.Sides.{other, around}
-use Rattle.chunks.proofs.Sides.{height-around, root-around}
+use Rattle.chunks.proofs.Sides.{height_around, root_around}
 use Rattle.slots.specs.declared.memory.Memory.{Memory}
 use Rattle.slots.specs.declared.slot.Slot.{Slot}
 use Rattle.slots.specs.declared.slot.Extent.{Extent}
 use Rattle.slots.specs.Claim.{nothing}
-use Rattle.slots.specs.View.{height-at, Roomy}
+use Rattle.slots.specs.View.{height_at, Roomy}
 use Rattle.slots.specs.Holds.{Holds, Ready}
 use Rattle.slots.specs.Join.{Linked, Joined, Settled, Grown}
-use Rattle.slots.proofs.Turning.{Parts, parts, joined-linked, joined-turned, ready-inner, ready-outer, joined-over}
+use Rattle.slots.proofs.Turning.{Parts, parts, joined_linked, joined_turned, ready_inner, ready_outer, joined_over}
 use Rattle.slots.proofs.Rotating.{Seen}
 
 -- What holds of an element for every default holds of the list of what f sees.
-at-any : {X : Type 0} (xs : List X) (i : ℕ) → i < length xs → (f : X → ℕ) {h : ℕ} → ((d : X) → f (get_or xs i d) ≡ h) → get_or (map f xs) i 0 ≡ h
-at-any [] i within f is = let no : ⊥ = omega arith in absurd no
-at-any (x ∷ xs) zero within f is = is x
-at-any (x ∷ xs) (suc i) within f is = at-any xs i (omega arith) f is
+at_any : {X : Type 0} (xs : List X) (i : ℕ) → i < length xs → (f : X → ℕ) {h : ℕ} → ((d : X) → f (get_or xs i d) ≡ h) → get_or (map f xs) i 0 ≡ h
+at_any [] i within f is = let no : ⊥ = omega arith in absurd no
+at_any (x ∷ xs) zero within f is = is x
+at_any (x ∷ xs) (suc i) within f is = at_any xs i (omega arith) f is
 
 module _ {R : Type 0} where
-  height-read : (m : Memory R) (i : ℕ) {h : ℕ} → i < length m.slots.now → ((d : Slot R) → (get_or m.slots.now i d).node.extent.height ≡ h) → height-at m (Some i) ≡ h
-  height-read m i within is = at-any m.slots.now i within (λ (s : Slot R). s.node.extent.height) is
+  height_read : (m : Memory R) (i : ℕ) {h : ℕ} → i < length m.slots.now → ((d : Slot R) → (get_or m.slots.now i d).node.extent.height ≡ h) → height_at m (Some i) ≡ h
+  height_read m i within is = at_any m.slots.now i within (λ (s : Slot R). s.node.extent.height) is
 
   -- The height that memory says is the tree's.
-  pub height-held : (m : Memory R) → Roomy m → (t : Tree) (link : Option ℕ) → link ≡ root t → Holds nothing m t → height-at m link ≡ height t
-  height-held m roomy leaf link e h = ap (height-at m) e
-  height-held m roomy (node l i r) link e (here, _) =
-      let room = roomy.slot-each in
+  pub height_held : (m : Memory R) → Roomy m → (t : Tree) (link : Option ℕ) → link ≡ root t → Holds nothing m t → height_at m link ≡ height t
+  height_held m roomy leaf link e h = ap (height_at m) e
+  height_held m roomy (node l i r) link e (here, _) =
+      let room = roomy.slot_each in
       let known = here.known in
-      ap (height-at m) e ∙ height-read m i (omega arith) (λ d. ap (λ (x : Extent). x.height) (here.placed d).extent)
+      ap (height_at m) e ∙ height_read m i (omega arith) (λ d. ap (λ (x : Extent). x.height) (here.placed d).extent)
 
   -- A slot between two trees that are settled by one link.
-  pub settled-linked : (μ : Measure R) (s : Side) (m : Memory R) (a : Tree) (i : ℕ) (b : Tree) (after : Memory R) → Linked μ s m a i b after → Settled μ s m a i b after (around s a i b)
-  settled-linked μ s m a i b after l = record { joined = joined-linked μ s m a i b after l; exact = λ _. height-around s a i b }
+  pub settled_linked : (μ : Measure R) (s : Side) (m : Memory R) (a : Tree) (i : ℕ) (b : Tree) (after : Memory R) → Linked μ s m a i b after → Settled μ s m a i b after (around s a i b)
+  settled_linked μ s m a i b after l = record { joined = joined_linked μ s m a i b after l; exact = λ _. height_around s a i b }
 
   -- Going down on the near side.
   module _ (μ : Measure R) {m : Memory R} {s : Side} {outer : Option ℕ} {inner : Option ℕ} {near-link : Option ℕ} {a : Tree} {i : ℕ} {far-link : Option ℕ} {b : Tree} (k : ℕ)
       (ready : Ready m near-link a i far-link b) (v : Seen m s outer inner k a) (steep : suc (height b) < height a) where
-    ready-open : Ready m near-link (around s v.o k v.n) i far-link b
-    ready-open = subst (λ (z : Tree). Ready m near-link z i far-link b) v.is ready
+    ready_open : Ready m near-link (around s v.o k v.n) i far-link b
+    ready_open = subst (λ (z : Tree). Ready m near-link z i far-link b) v.is ready
 
-    pub down-ready : Ready m inner v.n i far-link b
-    down-ready = ready-inner μ s m near-link v.o k v.n i far-link b ready-open inner v.inner-root
+    pub down_ready : Ready m inner v.n i far-link b
+    down_ready = ready_inner μ s m near-link v.o k v.n i far-link b ready_open inner v.inner_root
 
-    pub down-lower : height v.n < height a
-    down-lower = omega (arith, ap height v.is, height-around s v.o k v.n)
+    pub down_lower : height v.n < height a
+    down_lower = omega (arith, ap height v.is, height_around s v.o k v.n)
 
     module _ (m₁ : Memory R) (t₁ : Tree) (r : ℕ) (top : Some r ≡ root t₁) (first : Joined μ s m v.n i b m₁ t₁) where
-      pub down-grown : Grown m₁ outer v.o k (Some r) t₁
-      down-grown =
-          let p = parts nothing m s v.o k v.n ready-open.near-holds in
-          let h = height-around s v.o k v.n in
+      pub down_grown : Grown m₁ outer v.o k (Some r) t₁
+      down_grown =
+          let p = parts nothing m s v.o k v.n ready_open.near_holds in
+          let h = height_around s v.o k v.n in
           let is = ap height v.is in
-          let near = p.near-low in
-          let far = p.far-low in
-          let low = first.over-near in
+          let near = p.near_low in
+          let far = p.far_low in
+          let low = first.over_near in
           let high = first.high (height v.n) (omega arith) (omega arith) in
           record {
-            ready = ready-outer μ s m near-link v.o k v.n i far-link b ready-open m₁ t₁ first outer v.outer-root r top;
-            far-low = omega arith;
-            near-low = omega arith;
+            ready = ready_outer μ s m near-link v.o k v.n i far-link b ready_open m₁ t₁ first outer v.outer_root r top;
+            far_low = omega arith;
+            near_low = omega arith;
           }
 
-      pub down-joined : (m₂ : Memory R) (t₂ : Tree) → Settled μ s m₁ v.o k t₁ m₂ t₂ → Joined μ s m a i b m₂ t₂
-      down-joined m₂ t₂ second =
-          let p = parts nothing m s v.o k v.n ready-open.near-holds in
-          let h = height-around s v.o k v.n in
+      pub down_joined : (m₂ : Memory R) (t₂ : Tree) → Settled μ s m₁ v.o k t₁ m₂ t₂ → Joined μ s m a i b m₂ t₂
+      down_joined m₂ t₂ second =
+          let p = parts nothing m s v.o k v.n ready_open.near_holds in
+          let h = height_around s v.o k v.n in
           let is = ap height v.is in
-          let near = p.near-low in
-          let far = p.far-low in
-          let low = first.over-near in
+          let near = p.near_low in
+          let far = p.far_low in
+          let low = first.over_near in
           let high = first.high (height v.n) (omega arith) (omega arith) in
-          let over = second.joined.over-far in
+          let over = second.joined.over_far in
           let most : height v.o ≤ height t₁ → height t₂ ≤ suc (height t₁) = λ e. second.joined.high (height t₁) e (omega arith) in
           let bounds : (height a ≤ height t₂) × (height t₂ ≤ suc (height a)) =
           ⊎_elim (λ e. let flat = second.exact (omega arith) in (omega arith, omega arith)) (λ e. let tall = most (omega arith) in (omega arith, omega arith)) (cases_lt (height t₁) (suc (suc (height v.o))))
           in
           subst (λ (z : Tree). Joined μ s m z i b m₂ t₂) (sym v.is)
-          (joined-over μ s m near-link v.o k v.n i far-link b ready-open m₁ t₁ first m₂ t₂ second.joined (omega (arith, bounds)) (omega (arith, bounds)) (λ q e f. omega (arith, bounds)))
+          (joined_over μ s m near-link v.o k v.n i far-link b ready_open m₁ t₁ first m₂ t₂ second.joined (omega (arith, bounds)) (omega (arith, bounds)) (λ q e f. omega (arith, bounds)))
 
 -- A tree is higher than its sides.
-pub node-higher : {t l : Tree} {i : ℕ} {r : Tree} → t ≡ node l i r → (height l < height t) × (height r < height t)
-node-higher is = let e = ap height is in (omega arith, omega arith)
+pub node_higher : {t l : Tree} {i : ℕ} {r : Tree} → t ≡ node l i r → (height l < height t) × (height r < height t)
+node_higher is = let e = ap height is in (omega arith, omega arith)

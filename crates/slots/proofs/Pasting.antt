@@ -2,7 +2,7 @@
 use Rattle.std.proofs.Common.{◌≡◌, ℕ, suc, ◌+◌, ◌-◌, ◌<◌, ◌≤◌, List, [], ◌∷◌, ◌++◌, length, take, drop, sym, refl, ap, ◌∙◌, subst, append_assoc, arith}
 use Rattle.std.proofs.lemmas.List.{length-append, length-take-le, length-drop, take_at, drop-drop, take-append-drop}
 use Rattle.slots.specs.Copy.{pasted, Copied}
-use Rattle.slots.proofs.Splitting.{drop-plus}
+use Rattle.slots.proofs.Splitting.{drop_plus}
 
 module _ (out xs : List ℕ) (at : ℕ) (room : at + length xs ≤ length out) where
   front : length (take at out ++ xs) ≡ at + length xs
@@ -16,14 +16,14 @@ module _ (out xs : List ℕ) (at : ℕ) (room : at + length xs ≤ length out) w
   flat : pasted out at xs ≡ (take at out ++ xs) ++ drop (at + length xs) out
   flat = sym (append_assoc (take at out) xs (drop (at + length xs) out))
 
-  pub pasted-twice : (ys : List ℕ) → pasted (pasted out at xs) (at + length xs) ys ≡ pasted out at (xs ++ ys)
-  pasted-twice ys =
+  pub pasted_twice : (ys : List ℕ) → pasted (pasted out at xs) (at + length xs) ys ≡ pasted out at (xs ++ ys)
+  pasted_twice ys =
       let n = at + length xs in
       let head : take n (pasted out at xs) ≡ take at out ++ xs = ap (take n) flat ∙ take_at (take at out ++ xs) (drop n out) n front in
       let tail : drop (n + length ys) (pasted out at xs) ≡ drop (n + length ys) out =
       ap (drop (n + length ys)) flat
       ∙ ap (λ k. drop (k + length ys) ((take at out ++ xs) ++ drop n out)) (sym front)
-      ∙ drop-plus (take at out ++ xs) (drop n out) (length ys)
+      ∙ drop_plus (take at out ++ xs) (drop n out) (length ys)
       ∙ drop-drop (length ys) n out
       in
       let long : n + length ys ≡ at + length (xs ++ ys) = omega (arith, length-append xs ys) in
@@ -41,24 +41,24 @@ copied_none out at bytes none within =
       after_is = sym (take-append-drop at out) ∙ ap (λ n. take at out ++ drop n out) e ∙ ap (λ (l : List ℕ). pasted out at l) (sym none);
     }
 
-pub copied-two : (out xs ys : List ℕ) (at : ℕ) (mid after : List ℕ) (m e : ℕ) → at + length (xs ++ ys) ≤ length out → Copied xs out at mid m → Copied ys mid m after e → Copied (xs ++ ys) out at after e
-copied-two out xs ys at mid after m e room p q =
+pub copied_two : (out xs ys : List ℕ) (at : ℕ) (mid after : List ℕ) (m e : ℕ) → at + length (xs ++ ys) ≤ length out → Copied xs out at mid m → Copied ys mid m after e → Copied (xs ++ ys) out at after e
+copied_two out xs ys at mid after m e room p q =
     let long = length-append xs ys in
     let m-is = p.end_is in
     let e-is = q.end_is in
     record {
       end_is = omega arith;
-      after_is = q.after_is ∙ ap (λ (l : List ℕ). pasted l m ys) p.after_is ∙ ap (λ n. pasted (pasted out at xs) n ys) m-is ∙ pasted-twice out xs at (omega arith) ys;
+      after_is = q.after_is ∙ ap (λ (l : List ℕ). pasted l m ys) p.after_is ∙ ap (λ n. pasted (pasted out at xs) n ys) m-is ∙ pasted_twice out xs at (omega arith) ys;
     }
 
-pub copied-length : (out xs : List ℕ) (at : ℕ) (after : List ℕ) (e : ℕ) → at + length xs ≤ length out → Copied xs out at after e → length after ≡ length out
-copied-length out xs at after e room p = ap length p.after_is ∙ pasted_length out xs at room
+pub copied_length : (out xs : List ℕ) (at : ℕ) (after : List ℕ) (e : ℕ) → at + length xs ≤ length out → Copied xs out at after e → length after ≡ length out
+copied_length out xs at after e room p = ap length p.after_is ∙ pasted_length out xs at room
 
-pub copied-three : (out xs ys zs : List ℕ) (at : ℕ) (mid next after : List ℕ) (m n e : ℕ) → at + length xs + length ys + length zs ≤ length out →
+pub copied_three : (out xs ys zs : List ℕ) (at : ℕ) (mid next after : List ℕ) (m n e : ℕ) → at + length xs + length ys + length zs ≤ length out →
     Copied xs out at mid m → Copied ys mid m next n → Copied zs next n after e → Copied (xs ++ (ys ++ zs)) out at after e
-copied-three out xs ys zs at mid next after m n e room p q s =
+copied_three out xs ys zs at mid next after m n e room p q s =
     let rest = length-append ys zs in
     let all = length-append xs (ys ++ zs) in
     let m-is = p.end_is in
-    let same = copied-length out xs at mid m (omega arith) p in
-    copied-two out xs (ys ++ zs) at mid after m e (omega arith) p (copied-two mid ys zs m next after n e (omega arith) q s)
+    let same = copied_length out xs at mid m (omega arith) p in
+    copied_two out xs (ys ++ zs) at mid after m e (omega arith) p (copied_two mid ys zs m next after n e (omega arith) q s)

@@ -18,34 +18,34 @@ drop_min f e xs short =
     (cases_lt f e)
 
 -- A range of the first s elements.
-pub between-clipped : (f t s : ℕ) (xs : List ℕ) → between f t (take s xs) ≡ between (min f (min t s)) (min t s) xs
-between-clipped f t s xs =
+pub between_clipped : (f t s : ℕ) (xs : List ℕ) → between f t (take s xs) ≡ between (min f (min t s)) (min t s) xs
+between_clipped f t s xs =
     between_is (take s xs) f t
     ∙ ap (drop f) (take_min t s xs)
     ∙ drop_min f (min t s) (take (min t s) xs) (omega (arith, length-take (min t s) xs))
     ∙ sym (between_is xs (min f (min t s)) (min t s))
 
 -- A range from a on, seen from there.
-pub between-from : (a b e : ℕ) (xs : List ℕ) → take (a + e - (a + b)) (drop (a + b) xs) ≡ between b e (drop a xs)
-between-from a b e xs = let long : a + e - (a + b) ≡ e - b = omega arith in ap (λ n. take n (drop (a + b) xs)) long ∙ ap (take (e - b)) (sym (drop-drop b a xs))
+pub between_from : (a b e : ℕ) (xs : List ℕ) → take (a + e - (a + b)) (drop (a + b) xs) ≡ between b e (drop a xs)
+between_from a b e xs = let long : a + e - (a + b) ≡ e - b = omega arith in ap (λ n. take n (drop (a + b) xs)) long ∙ ap (take (e - b)) (sym (drop-drop b a xs))
 
-take-over : (t : ℕ) (xs ys : List ℕ) → take t (xs ++ ys) ≡ take t xs ++ take (t - length xs) ys
-take-over zero xs ys = let e : 0 - length xs ≡ 0 = omega arith in sym (ap (λ n. take n ys) e)
-take-over (suc t) [] ys = let e : suc t ≡ suc t - 0 = omega arith in ap (λ n. take n ys) e
-take-over (suc t) (x ∷ xs) ys = let e : t - length xs ≡ suc t - suc (length xs) = omega arith in ap (λ l. x ∷ l) (take-over t xs ys) ∙ ap (λ n. x ∷ (take t xs ++ take n ys)) e
+take_over : (t : ℕ) (xs ys : List ℕ) → take t (xs ++ ys) ≡ take t xs ++ take (t - length xs) ys
+take_over zero xs ys = let e : 0 - length xs ≡ 0 = omega arith in sym (ap (λ n. take n ys) e)
+take_over (suc t) [] ys = let e : suc t ≡ suc t - 0 = omega arith in ap (λ n. take n ys) e
+take_over (suc t) (x ∷ xs) ys = let e : t - length xs ≡ suc t - suc (length xs) = omega arith in ap (λ l. x ∷ l) (take_over t xs ys) ∙ ap (λ n. x ∷ (take t xs ++ take n ys)) e
 
-drop-over : (f : ℕ) (xs ys : List ℕ) → drop f (xs ++ ys) ≡ drop f xs ++ drop (f - length xs) ys
-drop-over zero xs ys = let e : 0 - length xs ≡ 0 = omega arith in sym (ap (λ n. xs ++ drop n ys) e)
-drop-over (suc f) [] ys = let e : suc f ≡ suc f - 0 = omega arith in ap (λ n. drop n ys) e
-drop-over (suc f) (x ∷ xs) ys = let e : f - length xs ≡ suc f - suc (length xs) = omega arith in drop-over f xs ys ∙ ap (λ n. drop f xs ++ drop n ys) e
+drop_over : (f : ℕ) (xs ys : List ℕ) → drop f (xs ++ ys) ≡ drop f xs ++ drop (f - length xs) ys
+drop_over zero xs ys = let e : 0 - length xs ≡ 0 = omega arith in sym (ap (λ n. xs ++ drop n ys) e)
+drop_over (suc f) [] ys = let e : suc f ≡ suc f - 0 = omega arith in ap (λ n. drop n ys) e
+drop_over (suc f) (x ∷ xs) ys = let e : f - length xs ≡ suc f - suc (length xs) = omega arith in drop_over f xs ys ∙ ap (λ n. drop f xs ++ drop n ys) e
 
 -- A range of two lists, one behind the other.
-pub between-append : (f t : ℕ) (xs ys : List ℕ) → between f t (xs ++ ys) ≡ between f t xs ++ between (f - length xs) (t - length xs) ys
-between-append f t xs ys =
+pub between_append : (f t : ℕ) (xs ys : List ℕ) → between f t (xs ++ ys) ≡ between f t xs ++ between (f - length xs) (t - length xs) ys
+between_append f t xs ys =
     let n = length xs in
     between_is (xs ++ ys) f t
-    ∙ ap (drop f) (take-over t xs ys)
-    ∙ drop-over f (take t xs) (take (t - n) ys)
+    ∙ ap (drop f) (take_over t xs ys)
+    ∙ drop_over f (take t xs) (take (t - n) ys)
     ∙ ap (λ l. l ++ drop (f - length (take t xs)) (take (t - n) ys)) (sym (between_is xs f t))
     ∙ ap (λ l. between f t xs ++ l)
     (⊎_elim
@@ -58,22 +58,22 @@ between-append f t xs ys =
     (cases_lt t n))
 
 -- All of a list, and nothing of it.
-pub between-all : (t : ℕ) (xs : List ℕ) → length xs ≤ t → between 0 t xs ≡ xs
-between-all t xs h = take_all (t - 0) xs (omega arith)
+pub between_all : (t : ℕ) (xs : List ℕ) → length xs ≤ t → between 0 t xs ≡ xs
+between_all t xs h = take_all (t - 0) xs (omega arith)
 
 pub between_none : (f t : ℕ) (xs : List ℕ) → t ≤ f → between f t xs ≡ []
 between_none f t xs h = nil_from_length (between f t xs) (omega (arith, length-take (t - f) (drop f xs)))
 
-pub between-past : (f t : ℕ) (xs : List ℕ) → length xs ≤ f → between f t xs ≡ []
-between-past f t xs h = nil_from_length (between f t xs) (omega (arith, length-take (t - f) (drop f xs), length-drop f xs))
+pub between_past : (f t : ℕ) (xs : List ℕ) → length xs ≤ f → between f t xs ≡ []
+between_past f t xs h = nil_from_length (between f t xs) (omega (arith, length-take (t - f) (drop f xs), length-drop f xs))
 
 -- A range is no longer than its ends are apart.
-pub between-short : (f t : ℕ) (xs : List ℕ) → length (between f t xs) ≤ t - f
-between-short f t xs = omega (arith, length-take (t - f) (drop f xs))
+pub between_short : (f t : ℕ) (xs : List ℕ) → length (between f t xs) ≤ t - f
+between_short f t xs = omega (arith, length-take (t - f) (drop f xs))
 
 -- A range within the list is as long as its ends are apart, and a range at all is no longer than what is left.
-pub between-long : (f t : ℕ) (xs : List ℕ) → t ≤ length xs → length (between f t xs) ≡ t - f
-between-long f t xs h = omega (arith, length-take (t - f) (drop f xs), length-drop f xs)
+pub between_long : (f t : ℕ) (xs : List ℕ) → t ≤ length xs → length (between f t xs) ≡ t - f
+between_long f t xs h = omega (arith, length-take (t - f) (drop f xs), length-drop f xs)
 
 pub between_left : (f t : ℕ) (xs : List ℕ) → length (between f t xs) ≤ length xs - f
 between_left f t xs = omega (arith, length-take (t - f) (drop f xs), length-drop f xs)

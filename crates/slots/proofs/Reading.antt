@@ -7,23 +7,23 @@ use native.Mathlib.Bridge.{le_prop}
 use ghost.Sets.{retract_set}
 use Rattle.chunks.specs.Tree.{Tree, leaf, node, root, slots, height, Level}
 use Rattle.chunks.specs.Footprint.{uses, count, below}
-use Rattle.chunks.proofs.Footprint.{few-below}
+use Rattle.chunks.proofs.Footprint.{few_below}
 use Rattle.slots.specs.declared.memory.Memory.{Memory}
 use Rattle.slots.specs.declared.slot.Slot.{Slot}
 use Rattle.slots.specs.declared.slot.Extent.{Extent}
 use Rattle.slots.specs.Claim.{Claim, nothing}
-use Rattle.slots.specs.View.{next_of, height-at, Roomy}
+use Rattle.slots.specs.View.{next_of, height_at, Roomy}
 use Rattle.slots.specs.Holds.{Placed, Here, Holds}
 use Rattle.slots.specs.Free.{Stack}
 use Rattle.slots.specs.Replace.{Whole}
-use Rattle.slots.specs.Sound.{left-of, right_of, read, read-free, tree_of, free_of, Sound}
-use Rattle.slots.proofs.Joining.{height-held}
+use Rattle.slots.specs.Sound.{left_of, right_of, read, read_free, tree_of, free_of, Sound}
+use Rattle.slots.proofs.Joining.{height_held}
 
 -- What holds of an element for every default holds of the list of what f sees.
-at-any : {X Y : Type 0} (xs : List X) (i : ℕ) → i < length xs → (f : X → Y) (e : Y) {h : Y} → ((d : X) → f (get_or xs i d) ≡ h) → get_or (map f xs) i e ≡ h
-at-any [] i within f e is = let no : ⊥ = omega arith in absurd no
-at-any (x ∷ xs) zero within f e is = is x
-at-any (x ∷ xs) (suc i) within f e is = at-any xs i (omega arith) f e is
+at_any : {X Y : Type 0} (xs : List X) (i : ℕ) → i < length xs → (f : X → Y) (e : Y) {h : Y} → ((d : X) → f (get_or xs i d) ≡ h) → get_or (map f xs) i e ≡ h
+at_any [] i within f e is = let no : ⊥ = omega arith in absurd no
+at_any (x ∷ xs) zero within f e is = is x
+at_any (x ∷ xs) (suc i) within f e is = at_any xs i (omega arith) f e is
 
 module _ {R : Type 0} (m : Memory R) (roomy : Roomy m) where
   read_held : (n : ℕ) (t : Tree) (link : Option ℕ) → height t ≤ n → link ≡ root t → Holds nothing m t → read m n link ≡ t
@@ -32,35 +32,35 @@ module _ {R : Type 0} (m : Memory R) (roomy : Roomy m) where
   read_held (suc n) leaf link low e h = ap (read m (suc n)) e
   read_held zero (node l i r) link low e h = let no : ⊥ = omega arith in absurd no
   read_held (suc n) (node l i r) link low e (here, (hl, hr)) =
-      let room = roomy.slot-each in
+      let room = roomy.slot_each in
       let known = here.known in
-      let left = at-any m.slots.now i (omega arith) (λ (s : Slot R). s.node.left) None (λ d. (here.placed d).left) in
-      let right = at-any m.slots.now i (omega arith) (λ (s : Slot R). s.node.right) None (λ d. (here.placed d).right) in
+      let left = at_any m.slots.now i (omega arith) (λ (s : Slot R). s.node.left) None (λ d. (here.placed d).left) in
+      let right = at_any m.slots.now i (omega arith) (λ (s : Slot R). s.node.right) None (λ d. (here.placed d).right) in
       ap (read m (suc n)) e
-      ∙ ap (λ (z : Tree). node z i (read m n (right_of m i))) (read_held n l (left-of m i) (omega arith) left hl)
+      ∙ ap (λ (z : Tree). node z i (read m n (right_of m i))) (read_held n l (left_of m i) (omega arith) left hl)
       ∙ ap (node l i) (read_held n r (right_of m i) (omega arith) right hr)
 
-  pub tree-held : (t : Tree) (link : Option ℕ) → link ≡ root t → Holds nothing m t → tree_of m link ≡ t
+  pub tree_held : (t : Tree) (link : Option ℕ) → link ≡ root t → Holds nothing m t → tree_of m link ≡ t
   unfolding tree_of
-  tree-held t link e h = let high = height-held m roomy t link e h in read_held (height-at m link) t link (omega arith) e h
+  tree_held t link e h = let high = height_held m roomy t link e h in read_held (height_at m link) t link (omega arith) e h
 
-free-held : {R : Type 0} (m : Memory R) (n : ℕ) (is : List ℕ) (link : Option ℕ) → length is ≤ n → Stack m link is → read-free m n link ≡ is
-unfolding read-free
-free-held m zero [] link few h = refl
-free-held m (suc n) [] link few h = ap (read-free m (suc n)) h
-free-held m zero (i ∷ is) link few h = let no : ⊥ = omega arith in absurd no
-free-held m (suc n) (i ∷ is) link few (here, rest) = ap (read-free m (suc n)) here ∙ ap (λ l. i ∷ l) (free-held m n is (next_of m i) (omega arith) rest)
+free_held : {R : Type 0} (m : Memory R) (n : ℕ) (is : List ℕ) (link : Option ℕ) → length is ≤ n → Stack m link is → read_free m n link ≡ is
+unfolding read_free
+free_held m zero [] link few h = refl
+free_held m (suc n) [] link few h = ap (read_free m (suc n)) h
+free_held m zero (i ∷ is) link few h = let no : ⊥ = omega arith in absurd no
+free_held m (suc n) (i ∷ is) link few (here, rest) = ap (read_free m (suc n)) here ∙ ap (λ l. i ∷ l) (free_held m n is (next_of m i) (omega arith) rest)
 
 module _ {R : Type 0} {m : Memory R} {link : Option ℕ} {t : Tree} {is : List ℕ} (whole : Whole m link t is) where
   pub tree_is : tree_of m link ≡ t
-  tree_is = tree-held m whole.roomy t link whole.root_is whole.holds
+  tree_is = tree_held m whole.roomy t link whole.root_is whole.holds
 
-  pub free-is : free_of m ≡ is
+  pub free_is : free_of m ≡ is
   unfolding free_of
-  free-is = free-held m m.usable is m.free (few-below m.usable is (λ j. omega (arith, whole.all j))) whole.stack
+  free_is = free_held m m.usable is m.free (few_below m.usable is (λ j. omega (arith, whole.all j))) whole.stack
 
-  pub sound-whole : Sound m link
-  sound-whole = ∣ subst (λ (z : Tree). Whole m link z (free_of m)) (sym tree_is) (subst (λ (z : List ℕ). Whole m link t z) (sym free-is) whole) ∣₁
+  pub sound_whole : Sound m link
+  sound_whole = ∣ subst (λ (z : Tree). Whole m link z (free_of m)) (sym tree_is) (subst (λ (z : List ℕ). Whole m link t z) (sym free_is) whole) ∣₁
 
 -- Soundness has one proof at most.
 encode : Option ℕ → ℕ
@@ -71,13 +71,13 @@ decode : ℕ → Option ℕ
 decode zero = None
 decode (suc n) = Some n
 
-decode-encode : (o : Option ℕ) → decode (encode o) ≡ o
+decode_encode : (o : Option ℕ) → decode (encode o) ≡ o
 unfolding encode decode
-decode-encode None = refl
-decode-encode (Some n) = refl
+decode_encode None = refl
+decode_encode (Some n) = refl
 
-option-set : IsSet (Option ℕ)
-option-set = retract_set encode decode decode-encode ℕ_set
+option_set : IsSet (Option ℕ)
+option_set = retract_set encode decode decode_encode ℕ_set
 
 spread : Extent → ℕ → ℕ
 spread e zero = e.height
@@ -87,31 +87,31 @@ spread e (suc (suc n)) = e.chunks
 gather : (ℕ → ℕ) → Extent
 gather f = record { height = f 0; bytes = f 1; chunks = f 2 }
 
-gather-spread : (e : Extent) → gather (spread e) ≡ e
+gather_spread : (e : Extent) → gather (spread e) ≡ e
 unfolding spread gather
-gather-spread e = refl
+gather_spread e = refl
 
-extent-set : IsSet Extent
-extent-set = retract_set spread gather gather-spread (→_set ℕ_set)
+extent_set : IsSet Extent
+extent_set = retract_set spread gather gather_spread (→_set ℕ_set)
 
-roomy-prop : {R : Type 0} (m : Memory R) → IsProp (Roomy m)
-roomy-prop m x y = λ z. record {
+roomy_prop : {R : Type 0} (m : Memory R) → IsProp (Roomy m)
+roomy_prop m x y = λ z. record {
   few = le_prop x.few y.few z;
-  slot-each = le_prop x.slot-each y.slot-each z;
-  reading-each = le_prop x.reading-each y.reading-each z;
-  store-each = le_prop x.store-each y.store-each z;
+  slot_each = le_prop x.slot_each y.slot_each z;
+  reading_each = le_prop x.reading_each y.reading_each z;
+  store_each = le_prop x.store_each y.store_each z;
 }
 
-here-prop : {R : Type 0} (m : Memory R) (l : Tree) (i : ℕ) (r : Tree) → IsProp (Here nothing m l i r)
-here-prop m l i r x y = λ z. record {
+here_prop : {R : Type 0} (m : Memory R) (l : Tree) (i : ℕ) (r : Tree) → IsProp (Here nothing m l i r)
+here_prop m l i r x y = λ z. record {
   known = le_prop x.known y.known z;
   some_byte = le_prop x.some_byte y.some_byte z;
   few_bytes = le_prop x.few_bytes y.few_bytes z;
-  level = record { left-low = le_prop x.level.left-low y.level.left-low z; right-low = le_prop x.level.right-low y.level.right-low z };
+  level = record { left_low = le_prop x.level.left_low y.level.left_low z; right_low = le_prop x.level.right_low y.level.right_low z };
   placed = λ d. record {
-    left = option-set _ _ (x.placed d).left (y.placed d).left z;
-    right = option-set _ _ (x.placed d).right (y.placed d).right z;
-    extent = extent-set _ _ (x.placed d).extent (y.placed d).extent z;
+    left = option_set _ _ (x.placed d).left (y.placed d).left z;
+    right = option_set _ _ (x.placed d).right (y.placed d).right z;
+    extent = extent_set _ _ (x.placed d).extent (y.placed d).extent z;
     own = tt;
   };
   summed = λ d. tt;
@@ -119,20 +119,20 @@ here-prop m l i r x y = λ z. record {
 
 holds_prop : {R : Type 0} (m : Memory R) (t : Tree) → IsProp (Holds nothing m t)
 holds_prop m leaf x y = refl
-holds_prop m (node l i r) x y = λ z. (here-prop m l i r x.0 y.0 z, (holds_prop m l x.1.0 y.1.0 z, holds_prop m r x.1.1 y.1.1 z))
+holds_prop m (node l i r) x y = λ z. (here_prop m l i r x.0 y.0 z, (holds_prop m l x.1.0 y.1.0 z, holds_prop m r x.1.1 y.1.1 z))
 
-stack-prop : {R : Type 0} (m : Memory R) (link : Option ℕ) (is : List ℕ) → IsProp (Stack m link is)
-stack-prop m link [] x y = option-set _ _ x y
-stack-prop m link (i ∷ is) x y = λ z. (option-set _ _ x.0 y.0 z, stack-prop m (next_of m i) is x.1 y.1 z)
+stack_prop : {R : Type 0} (m : Memory R) (link : Option ℕ) (is : List ℕ) → IsProp (Stack m link is)
+stack_prop m link [] x y = option_set _ _ x y
+stack_prop m link (i ∷ is) x y = λ z. (option_set _ _ x.0 y.0 z, stack_prop m (next_of m i) is x.1 y.1 z)
 
 whole_prop : {R : Type 0} (m : Memory R) (link : Option ℕ) (t : Tree) (is : List ℕ) → IsProp (Whole m link t is)
 whole_prop m link t is x y = λ z. record {
-  roomy = roomy-prop m x.roomy y.roomy z;
-  root_is = option-set _ _ x.root_is y.root_is z;
+  roomy = roomy_prop m x.roomy y.roomy z;
+  root_is = option_set _ _ x.root_is y.root_is z;
   holds = holds_prop m t x.holds y.holds z;
-  stack = stack-prop m m.free is x.stack y.stack z;
+  stack = stack_prop m m.free is x.stack y.stack z;
   all = λ j. ℕ_set _ _ (x.all j) (y.all j) z;
 }
 
-pub whole-sound : {R : Type 0} (m : Memory R) (link : Option ℕ) → Sound m link → Whole m link (tree_of m link) (free_of m)
-whole-sound m link s = ∥∥₁_elim s (whole_prop m link (tree_of m link) (free_of m)) (λ w. w)
+pub whole_sound : {R : Type 0} (m : Memory R) (link : Option ℕ) → Sound m link → Whole m link (tree_of m link) (free_of m)
+whole_sound m link s = ∥∥₁_elim s (whole_prop m link (tree_of m link) (free_of m)) (λ w. w)

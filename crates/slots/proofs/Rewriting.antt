@@ -5,10 +5,10 @@ use Rattle.measure.specs.Measure.{Measure, reading}
 use Rattle.chunks.specs.declared.side.Side.TheVariants.{Left}
 use Rattle.chunks.specs.Tree.{Tree, leaf, node, root, slots, Level}
 use Rattle.chunks.specs.Footprint.{one, uses, below}
-use Rattle.chunks.specs.Cut.{Chunk, chunk-at, needed}
+use Rattle.chunks.specs.Cut.{Chunk, chunk_at, needed}
 use Rattle.chunks.specs.Over.{renewed, over}
-use Rattle.chunks.proofs.Footprint.{one_same, uses-node, below-few}
-use Rattle.chunks.proofs.Overwriting.{renewed-in, renewed-before, renewed-behind, over-append, over-before, over-behind}
+use Rattle.chunks.proofs.Footprint.{one_same, uses_node, below_few}
+use Rattle.chunks.proofs.Overwriting.{renewed_in, renewed_before, renewed_behind, over_append, over_before, over_behind}
 use Rattle.slots.specs.declared.memory.Memory.{Memory}
 use Rattle.slots.specs.declared.slot.Slot.{Slot}
 use Rattle.slots.specs.Claim.{Claim, nothing, Fair}
@@ -18,105 +18,105 @@ use Rattle.slots.specs.Join.{Linked}
 use Rattle.slots.specs.Split.{Held}
 use Rattle.slots.specs.Free.{Elsewhere, Written}
 use Rattle.slots.specs.Rewrite.{Renewed, Rewritten}
-use Rattle.slots.proofs.Frame.{chunks-same}
-use Rattle.slots.proofs.Text.{chunks-node}
-use Rattle.slots.proofs.Stacking.{says-measured}
-use Rattle.slots.proofs.Elsewhere.{elsewhere-trans, elsewhere-more, elsewhere-none, elsewhere-frame, size-elsewhere, roomy-elsewhere, chunks-elsewhere, holds-elsewhere, held-elsewhere, owned-elsewhere}
+use Rattle.slots.proofs.Frame.{chunks_same}
+use Rattle.slots.proofs.Text.{chunks_node}
+use Rattle.slots.proofs.Stacking.{says_measured}
+use Rattle.slots.proofs.Elsewhere.{elsewhere_trans, elsewhere_more, elsewhere_none, elsewhere_frame, size_elsewhere, roomy_elsewhere, chunks_elsewhere, holds_elsewhere, held_elsewhere, owned_elsewhere}
 
 module _ {R : Type 0} (μ : Measure R) {m : Memory R} (i n : ℕ) (bytes : List ℕ) (count from to : ℕ) where
-  pub renewed-not : 1 ≤ size_of m i → size_of m i ≤ 64 → (n < from) ⊎ ((from ≤ n) × (to ≤ n)) → Renewed μ m i n bytes count from to m
-  renewed-not some few out = record {
-    elsewhere = elsewhere-none m (one i);
+  pub renewed_not : 1 ≤ size_of m i → size_of m i ≤ 64 → (n < from) ⊎ ((from ≤ n) × (to ≤ n)) → Renewed μ m i n bytes count from to m
+  renewed_not some few out = record {
+    elsewhere = elsewhere_none m (one i);
     free = refl;
-    chunk-is = sym (⊎_elim (λ h. renewed-before bytes count from to n (chunk_of m i) h) (λ h. renewed-behind bytes count from to n (chunk_of m i) h.1) out);
+    chunk_is = sym (⊎_elim (λ h. renewed_before bytes count from to n (chunk_of m i) h) (λ h. renewed_behind bytes count from to n (chunk_of m i) h.1) out);
     some_byte = some;
     few_bytes = few;
     keeps = λ w fair owned. owned;
   }
 
-  pub renewed-written : from ≤ n → n < to → (new : List ℕ) → new ≡ chunk-at bytes count (n - from) → Chunk new → (own : R) → own ≡ reading μ new → (after : Memory R) → Written m i new own after → Renewed μ m i n bytes count from to after
-  renewed-written low high new is fits own measured after wrote = record {
+  pub renewed_written : from ≤ n → n < to → (new : List ℕ) → new ≡ chunk_at bytes count (n - from) → Chunk new → (own : R) → own ≡ reading μ new → (after : Memory R) → Written m i new own after → Renewed μ m i n bytes count from to after
+  renewed_written low high new is fits own measured after wrote = record {
     elsewhere = wrote.elsewhere;
     free = wrote.free;
-    chunk-is = wrote.chunk-is ∙ is ∙ sym (renewed-in bytes count from to n (chunk_of m i) low high);
+    chunk_is = wrote.chunk_is ∙ is ∙ sym (renewed_in bytes count from to n (chunk_of m i) low high);
     some_byte = subst (λ z. 1 ≤ z) (sym wrote.size_is) fits.some_byte;
     few_bytes = subst (λ z. z ≤ 64) (sym wrote.size_is) fits.few_bytes;
-    keeps = λ w fair _. record { own = λ d. says-measured μ w fair _ _ (wrote.own_is d ∙ measured ∙ ap (reading μ) (sym wrote.chunk-is)) };
+    keeps = λ w fair _. record { own = λ d. says_measured μ w fair _ _ (wrote.own_is d ∙ measured ∙ ap (reading μ) (sym wrote.chunk_is)) };
   }
 
 module _ {R : Type 0} (μ : Measure R) {m : Memory R} (t : Tree) (n : ℕ) (bytes : List ℕ) (count from to : ℕ) where
   -- Outside the run nothing is to be done.
-  pub rewritten-not : (n + length (slots t) ≤ from) ⊎ ((from < n + length (slots t)) × (to ≤ n)) → Rewritten μ m t n bytes count from to m
-  rewritten-not out = record {
-    elsewhere = elsewhere-none m (uses t);
+  pub rewritten_not : (n + length (slots t) ≤ from) ⊎ ((from < n + length (slots t)) × (to ≤ n)) → Rewritten μ m t n bytes count from to m
+  rewritten_not out = record {
+    elsewhere = elsewhere_none m (uses t);
     free = refl;
-    chunks-are =
+    chunks_are =
         let long = length-map (slots t) (chunk_of m) in
-        sym (⊎_elim (λ h. over-before bytes count from to n (chunks_of m t) (omega arith)) (λ h. over-behind bytes count from to n (chunks_of m t) h.1) out);
+        sym (⊎_elim (λ h. over_before bytes count from to n (chunks_of m t) (omega arith)) (λ h. over_behind bytes count from to n (chunks_of m t) h.1) out);
     keeps = λ w fair h. h;
   }
 
 module _ {R : Type 0} (μ : Measure R) {m : Memory R} {link : Option ℕ} {l : Tree} {i : ℕ} {r : Tree} (held : Held m link (node l i r)) (n : ℕ) (bytes : List ℕ) (count from to : ℕ)
     {m₁ : Memory R} (first : Rewritten μ m l n bytes count from to m₁) where
   each : (j : ℕ) → uses l j + (one i j + uses r j) ≤ below m.usable j
-  each j = omega (arith, held.once j, uses-node l i r j)
+  each j = omega (arith, held.once j, uses_node l i r j)
 
-  own-apart : uses l i ≡ 0
-  own-apart = omega (arith, each i, one_same i, below-few m.usable i)
+  own_apart : uses l i ≡ 0
+  own_apart = omega (arith, each i, one_same i, below_few m.usable i)
 
-  rest-apart : uses r i ≡ 0
-  rest-apart = omega (arith, each i, one_same i, below-few m.usable i)
+  rest_apart : uses r i ≡ 0
+  rest_apart = omega (arith, each i, one_same i, below_few m.usable i)
 
-  pub own-ready : (Roomy m₁) × ((i < m₁.usable) × ((1 ≤ size_of m₁ i) × (size_of m₁ i ≤ 64)))
-  own-ready =
+  pub own_ready : (Roomy m₁) × ((i < m₁.usable) × ((1 ≤ size_of m₁ i) × (size_of m₁ i ≤ 64)))
+  own_ready =
       let here = held.holds.0 in
-      let size = size-elsewhere m m₁ _ first.elsewhere i own-apart in (
-        roomy-elsewhere m m₁ _ first.elsewhere held.roomy,
+      let size = size_elsewhere m m₁ _ first.elsewhere i own_apart in (
+        roomy_elsewhere m m₁ _ first.elsewhere held.roomy,
         (subst (λ z. i < z) (sym first.elsewhere.usable) here.known, (subst (λ z. 1 ≤ z) (sym size) here.some_byte, subst (λ z. z ≤ 64) (sym size) here.few_bytes)),
       )
 
   module _ (at : ℕ) {m₂ : Memory R} (second : Renewed μ m₁ i at bytes count from to m₂) where
     both : Elsewhere m m₂ (λ j. uses l j + one i j)
-    both = elsewhere-trans m m₁ m₂ _ _ first.elsewhere second.elsewhere
+    both = elsewhere_trans m m₁ m₂ _ _ first.elsewhere second.elsewhere
 
-    right-apart : (j : ℕ) → uses r j + (uses l j + one i j) ≤ 1
-    right-apart j = omega (arith, each j, below-few m.usable j)
+    right_apart : (j : ℕ) → uses r j + (uses l j + one i j) ≤ 1
+    right_apart j = omega (arith, each j, below_few m.usable j)
 
-    pub right-held : (right : Option ℕ) → right ≡ root r → Held m₂ right r
-    right-held right e =
-        held-elsewhere m m₂ _ both right r right-apart (record { roomy = held.roomy; root_is = e; holds = held.holds.1.1; once = λ j. omega (arith, each j) })
+    pub right_held : (right : Option ℕ) → right ≡ root r → Held m₂ right r
+    right_held right e =
+        held_elsewhere m m₂ _ both right r right_apart (record { roomy = held.roomy; root_is = e; holds = held.holds.1.1; once = λ j. omega (arith, each j) })
 
     module _ (next : ℕ) {m₃ : Memory R} (third : Rewritten μ m₂ r next bytes count from to m₃) where
       later : Elsewhere m₁ m₃ (λ j. one i j + uses r j)
-      later = elsewhere-trans m₁ m₂ m₃ _ _ second.elsewhere third.elsewhere
+      later = elsewhere_trans m₁ m₂ m₃ _ _ second.elsewhere third.elsewhere
 
-      left-apart : (j : ℕ) → uses l j + (one i j + uses r j) ≤ 1
-      left-apart j = omega (arith, each j, below-few m.usable j)
+      left_apart : (j : ℕ) → uses l j + (one i j + uses r j) ≤ 1
+      left_apart j = omega (arith, each j, below_few m.usable j)
 
-      left-holds : (w : Claim R) → Fair w μ → Holds w m (node l i r) → Holds w m₃ l
-      left-holds w fair h = holds-elsewhere m₁ m₃ _ later w l left-apart (first.keeps w fair h.1.0)
+      left_holds : (w : Claim R) → Fair w μ → Holds w m (node l i r) → Holds w m₃ l
+      left_holds w fair h = holds_elsewhere m₁ m₃ _ later w l left_apart (first.keeps w fair h.1.0)
 
-      right-holds : (w : Claim R) → Fair w μ → Holds w m (node l i r) → Holds w m₃ r
-      right-holds w fair h = third.keeps w fair (holds-elsewhere m m₂ _ both w r right-apart h.1.1)
+      right_holds : (w : Claim R) → Fair w μ → Holds w m (node l i r) → Holds w m₃ r
+      right_holds w fair h = third.keeps w fair (holds_elsewhere m m₂ _ both w r right_apart h.1.1)
 
-      own-owned : (w : Claim R) → Fair w μ → Holds w m (node l i r) → Owned w m₃ i
-      own-owned w fair h =
-          owned-elsewhere w m₂ m₃ _ third.elsewhere i rest-apart second.few_bytes
-          (second.keeps w fair (owned-elsewhere w m m₁ _ first.elsewhere i own-apart held.holds.0.few_bytes (record { own = λ d. (h.0.placed d).own })))
+      own_owned : (w : Claim R) → Fair w μ → Holds w m (node l i r) → Owned w m₃ i
+      own_owned w fair h =
+          owned_elsewhere w m₂ m₃ _ third.elsewhere i rest_apart second.few_bytes
+          (second.keeps w fair (owned_elsewhere w m m₁ _ first.elsewhere i own_apart held.holds.0.few_bytes (record { own = λ d. (h.0.placed d).own })))
 
       last : Elsewhere m m₃ (λ j. uses l j + one i j + uses r j)
-      last = elsewhere-trans m m₂ m₃ _ _ both third.elsewhere
+      last = elsewhere_trans m m₂ m₃ _ _ both third.elsewhere
 
-      pub link-ready : (left right : Option ℕ) → left ≡ root l → right ≡ root r → Ready m₃ left l i right r × Level l r
-      link-ready left right e f =
-          let size = size-elsewhere m₂ m₃ _ third.elsewhere i rest-apart in (
+      pub link_ready : (left right : Option ℕ) → left ≡ root l → right ≡ root r → Ready m₃ left l i right r × Level l r
+      link_ready left right e f =
+          let size = size_elsewhere m₂ m₃ _ third.elsewhere i rest_apart in (
             record {
-              roomy = roomy-elsewhere m m₃ _ last held.roomy;
+              roomy = roomy_elsewhere m m₃ _ last held.roomy;
               known = subst (λ z. i < z) (sym last.usable) held.holds.0.known;
-              near-root = e;
-              far-root = f;
-              near-holds = left-holds nothing tt held.holds;
-              far-holds = right-holds nothing tt held.holds;
+              near_root = e;
+              far_root = f;
+              near_holds = left_holds nothing tt held.holds;
+              far_holds = right_holds nothing tt held.holds;
               once = λ j. subst (λ z. uses l j + (one i j + uses r j) ≤ below z j) (sym last.usable) (each j);
               some_byte = subst (λ z. 1 ≤ z) (sym size) second.some_byte;
               few_bytes = subst (λ z. z ≤ 64) (sym size) second.few_bytes;
@@ -124,24 +124,24 @@ module _ {R : Type 0} (μ : Measure R) {m : Memory R} {link : Option ℕ} {l : T
             held.holds.0.level,
           )
 
-      pub rewritten-node : at ≡ n + length (slots l) → next ≡ at + 1 → {m₄ : Memory R} → Linked μ Left m₃ l i r m₄ → Rewritten μ m (node l i r) n bytes count from to m₄
-      rewritten-node at-is next-is {m₄} linked =
+      pub rewritten_node : at ≡ n + length (slots l) → next ≡ at + 1 → {m₄ : Memory R} → Linked μ Left m₃ l i r m₄ → Rewritten μ m (node l i r) n bytes count from to m₄
+      rewritten_node at-is next-is {m₄} linked =
           let o = over bytes count from to in
-          let ready-chunks = chunks-same m₃ m₄ _ linked.frame (node l i r) in
-          let split-new = chunks-node m₃ l i r in
-          let split-old = chunks-node m l i r in
-          let left = chunks-elsewhere m₁ m₃ _ later nothing l left-apart (first.keeps nothing tt held.holds.1.0) ∙ first.chunks-are in
-          let old-own = first.elsewhere.chunk-same i own-apart held.holds.0.few_bytes in
-          let own = third.elsewhere.chunk-same i rest-apart second.few_bytes ∙ second.chunk-is ∙ ap (renewed bytes count from to at) old-own in
-          let old-right = chunks-elsewhere m m₂ _ both nothing r right-apart held.holds.1.1 in
-          let right = third.chunks-are ∙ ap (o next) old-right in
-          let whole = over-append bytes count from to n (chunks_of m l) (chunk_of m i ∷ chunks_of m r) in
+          let ready-chunks = chunks_same m₃ m₄ _ linked.frame (node l i r) in
+          let split-new = chunks_node m₃ l i r in
+          let split-old = chunks_node m l i r in
+          let left = chunks_elsewhere m₁ m₃ _ later nothing l left_apart (first.keeps nothing tt held.holds.1.0) ∙ first.chunks_are in
+          let old-own = first.elsewhere.chunk_same i own_apart held.holds.0.few_bytes in
+          let own = third.elsewhere.chunk_same i rest_apart second.few_bytes ∙ second.chunk_is ∙ ap (renewed bytes count from to at) old-own in
+          let old-right = chunks_elsewhere m m₂ _ both nothing r right_apart held.holds.1.1 in
+          let right = third.chunks_are ∙ ap (o next) old-right in
+          let whole = over_append bytes count from to n (chunks_of m l) (chunk_of m i ∷ chunks_of m r) in
           let place : n + length (chunks_of m l) ≡ at = omega (arith, length-map (slots l) (chunk_of m)) in
           let behind : suc at ≡ next = omega arith in
           record {
-            elsewhere = elsewhere-more m m₄ _ _ (λ j e. omega (arith, uses-node l i r j)) (elsewhere-trans m m₃ m₄ _ _ last (elsewhere-frame m₃ m₄ _ linked.frame));
+            elsewhere = elsewhere_more m m₄ _ _ (λ j e. omega (arith, uses_node l i r j)) (elsewhere_trans m m₃ m₄ _ _ last (elsewhere_frame m₃ m₄ _ linked.frame));
             free = linked.frame.free ∙ third.free ∙ second.free ∙ first.free;
-            chunks-are =
+            chunks_are =
                 ready-chunks ∙ split-new
                 ∙ ap (λ z. z ++ (chunk_of m₃ i ∷ chunks_of m₃ r)) left
                 ∙ ap (λ z. o n (chunks_of m l) ++ (z ∷ chunks_of m₃ r)) own
@@ -150,5 +150,5 @@ module _ {R : Type 0} (μ : Measure R) {m : Memory R} {link : Option ℕ} {l : T
                 ∙ ap (λ k. o n (chunks_of m l) ++ (renewed bytes count from to k (chunk_of m i) ∷ o (suc k) (chunks_of m r))) (sym place)
                 ∙ sym whole
                 ∙ ap (o n) (sym split-old);
-            keeps = λ w fair h. linked.keeps w fair (left-holds w fair h) (right-holds w fair h) (own-owned w fair h);
+            keeps = λ w fair h. linked.keeps w fair (left_holds w fair h) (right_holds w fair h) (own_owned w fair h);
           }

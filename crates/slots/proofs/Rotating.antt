@@ -4,127 +4,127 @@ use Rattle.measure.specs.Measure.{Measure}
 use Rattle.chunks.specs.declared.side.Side.{Side}
 use Rattle.chunks.specs.Tree.{Tree, root, height, Level}
 use Rattle.chunks.specs.Sides.{other, around}
-use Rattle.chunks.proofs.Sides.{height-around, root-around, opened}
+use Rattle.chunks.proofs.Sides.{height_around, root_around, opened}
 use Rattle.slots.specs.declared.memory.Memory.{Memory}
 use Rattle.slots.specs.Claim.{nothing}
 use Rattle.slots.specs.Holds.{Holds, Ready}
 use Rattle.slots.specs.Join.{Linked, Joined, Leaning}
-use Rattle.slots.proofs.Turning.{Parts, parts, holds-turned, joined-linked, ready-inner, ready-outer, joined-over, ready-first, ready-second, ready-third, joined-twice}
+use Rattle.slots.proofs.Turning.{Parts, parts, holds_turned, joined_linked, ready_inner, ready_outer, joined_over, ready_first, ready_second, ready_third, joined_twice}
 
 module _ {R : Type 0} (μ : Measure R) {m : Memory R} {s : Side} {outer : Option ℕ} {o : Tree} {k : ℕ} {inner : Option ℕ} {n : Tree} {i : ℕ} {short : Option ℕ} {b : Tree}
     (lean : Leaning m s outer o k inner n i short b) (flat : height n ≤ height o) where
-  open-top : Parts nothing m o k n
-  open-top = parts nothing m s o k n lean.ready.near-holds
+  open_top : Parts nothing m o k n
+  open_top = parts nothing m s o k n lean.ready.near_holds
 
-  pub once-first : Ready m inner n i short b × Level n b
-  once-first =
-      let p = open-top in
-      let h = height-around s o k n in
-      let two = lean.two-higher in
-      let near = p.near-low in
-      let far = p.far-low in
-      (ready-inner μ s m (Some k) o k n i short b lean.ready inner lean.inner-root, record { left-low = omega arith; right-low = omega arith })
+  pub once_first : Ready m inner n i short b × Level n b
+  once_first =
+      let p = open_top in
+      let h = height_around s o k n in
+      let two = lean.two_higher in
+      let near = p.near_low in
+      let far = p.far_low in
+      (ready_inner μ s m (Some k) o k n i short b lean.ready inner lean.inner_root, record { left_low = omega arith; right_low = omega arith })
 
   module _ (m₁ : Memory R) (first : Linked μ s m n i b m₁) where
-    pub once-second : Ready m₁ outer o k (Some i) (around s n i b) × Level o (around s n i b)
-    once-second =
-        let p = open-top in
-        let h = height-around s o k n in
-        let two = lean.two-higher in
-        let near = p.near-low in
-        let far = p.far-low in
-        let new = height-around s n i b in (
-          ready-outer μ s m (Some k) o k n i short b lean.ready m₁ (around s n i b) (joined-linked μ s m n i b m₁ first) outer lean.outer-root i (sym (root-around s n i b)),
-          record { left-low = omega arith; right-low = omega arith },
+    pub once_second : Ready m₁ outer o k (Some i) (around s n i b) × Level o (around s n i b)
+    once_second =
+        let p = open_top in
+        let h = height_around s o k n in
+        let two = lean.two_higher in
+        let near = p.near_low in
+        let far = p.far_low in
+        let new = height_around s n i b in (
+          ready_outer μ s m (Some k) o k n i short b lean.ready m₁ (around s n i b) (joined_linked μ s m n i b m₁ first) outer lean.outer_root i (sym (root_around s n i b)),
+          record { left_low = omega arith; right_low = omega arith },
         )
 
-    pub once-joined : (m₂ : Memory R) → Linked μ s m₁ o k (around s n i b) m₂ → Joined μ s m (around s o k n) i b m₂ (around s o k (around s n i b))
-    once-joined m₂ second =
-        let p = open-top in
-        let h = height-around s o k n in
-        let two = lean.two-higher in
-        let near = p.near-low in
-        let far = p.far-low in
-        let new = height-around s n i b in
-        let top = height-around s o k (around s n i b) in
-        joined-over μ s m (Some k) o k n i short b lean.ready m₁ (around s n i b) (joined-linked μ s m n i b m₁ first) m₂ (around s o k (around s n i b)) (joined-linked μ s m₁ o k (around s n i b) m₂ second)
+    pub once_joined : (m₂ : Memory R) → Linked μ s m₁ o k (around s n i b) m₂ → Joined μ s m (around s o k n) i b m₂ (around s o k (around s n i b))
+    once_joined m₂ second =
+        let p = open_top in
+        let h = height_around s o k n in
+        let two = lean.two_higher in
+        let near = p.near_low in
+        let far = p.far_low in
+        let new = height_around s n i b in
+        let top = height_around s o k (around s n i b) in
+        joined_over μ s m (Some k) o k n i short b lean.ready m₁ (around s n i b) (joined_linked μ s m n i b m₁ first) m₂ (around s o k (around s n i b)) (joined_linked μ s m₁ o k (around s n i b) m₂ second)
         (omega arith) (omega arith) (λ q e f. omega arith)
 
 module _ {R : Type 0} (μ : Measure R) {m : Memory R} {s : Side} {outer : Option ℕ} {o : Tree} {k : ℕ} (x : Tree) {j : ℕ} (y : Tree) {i : ℕ} {short : Option ℕ} {b : Tree}
     (lean : Leaning m s outer o k (Some j) (around s x j y) i short b) (steep : height o < height (around s x j y)) where
-  open-tall : Parts nothing m o k (around s x j y)
-  open-tall = parts nothing m s o k (around s x j y) lean.ready.near-holds
+  open_tall : Parts nothing m o k (around s x j y)
+  open_tall = parts nothing m s o k (around s x j y) lean.ready.near_holds
 
-  open-inner : Parts nothing m x j y
-  open-inner = parts nothing m s x j y open-tall.far
+  open_inner : Parts nothing m x j y
+  open_inner = parts nothing m s x j y open_tall.far
 
-  pub twice-first : (link : Option ℕ) → link ≡ root x → Ready m outer o k link x × Level o x
-  twice-first link e =
-      let p = open-tall in
-      let q = open-inner in
-      let h = height-around s o k (around s x j y) in
-      let hn = height-around s x j y in
-      let two = lean.two-higher in
-      let far = p.far-low in
-      let near-inner = q.near-low in
-      let far-inner = q.far-low in
-      (ready-first μ s m (Some k) o k x j y i short b lean.ready outer link lean.outer-root e, record { left-low = omega arith; right-low = omega arith })
+  pub twice_first : (link : Option ℕ) → link ≡ root x → Ready m outer o k link x × Level o x
+  twice_first link e =
+      let p = open_tall in
+      let q = open_inner in
+      let h = height_around s o k (around s x j y) in
+      let hn = height_around s x j y in
+      let two = lean.two_higher in
+      let far = p.far_low in
+      let near-inner = q.near_low in
+      let far-inner = q.far_low in
+      (ready_first μ s m (Some k) o k x j y i short b lean.ready outer link lean.outer_root e, record { left_low = omega arith; right_low = omega arith })
 
   module _ (m₁ : Memory R) (first : Linked μ s m o k x m₁) where
-    pub twice-second : (link : Option ℕ) → link ≡ root y → Ready m₁ link y i short b × Level y b
-    twice-second link e =
-        let p = open-tall in
-        let q = open-inner in
-        let h = height-around s o k (around s x j y) in
-        let hn = height-around s x j y in
-        let two = lean.two-higher in
-        let far = p.far-low in
-        let near-inner = q.near-low in
-        let far-inner = q.far-low in
-        (ready-second μ s m (Some k) o k x j y i short b lean.ready m₁ first link e, record { left-low = omega arith; right-low = omega arith })
+    pub twice_second : (link : Option ℕ) → link ≡ root y → Ready m₁ link y i short b × Level y b
+    twice_second link e =
+        let p = open_tall in
+        let q = open_inner in
+        let h = height_around s o k (around s x j y) in
+        let hn = height_around s x j y in
+        let two = lean.two_higher in
+        let far = p.far_low in
+        let near-inner = q.near_low in
+        let far-inner = q.far_low in
+        (ready_second μ s m (Some k) o k x j y i short b lean.ready m₁ first link e, record { left_low = omega arith; right_low = omega arith })
 
     module _ (m₂ : Memory R) (second : Linked μ s m₁ y i b m₂) where
-      pub twice-third : Ready m₂ (Some k) (around s o k x) j (Some i) (around s y i b) × Level (around s o k x) (around s y i b)
-      twice-third =
-          let p = open-tall in
-          let q = open-inner in
-          let h = height-around s o k (around s x j y) in
-          let hn = height-around s x j y in
-          let two = lean.two-higher in
-          let far = p.far-low in
-          let near-inner = q.near-low in
-          let far-inner = q.far-low in
-          let left = height-around s o k x in
-          let right = height-around s y i b in
-          (ready-third μ s m (Some k) o k x j y i short b lean.ready m₁ first m₂ second, record { left-low = omega arith; right-low = omega arith })
+      pub twice_third : Ready m₂ (Some k) (around s o k x) j (Some i) (around s y i b) × Level (around s o k x) (around s y i b)
+      twice_third =
+          let p = open_tall in
+          let q = open_inner in
+          let h = height_around s o k (around s x j y) in
+          let hn = height_around s x j y in
+          let two = lean.two_higher in
+          let far = p.far_low in
+          let near-inner = q.near_low in
+          let far-inner = q.far_low in
+          let left = height_around s o k x in
+          let right = height_around s y i b in
+          (ready_third μ s m (Some k) o k x j y i short b lean.ready m₁ first m₂ second, record { left_low = omega arith; right_low = omega arith })
 
-      pub twice-joined : (m₃ : Memory R) → Linked μ s m₂ (around s o k x) j (around s y i b) m₃ → Joined μ s m (around s o k (around s x j y)) i b m₃ (around s (around s o k x) j (around s y i b))
-      twice-joined m₃ third =
-          let p = open-tall in
-          let q = open-inner in
-          let h = height-around s o k (around s x j y) in
-          let hn = height-around s x j y in
-          let two = lean.two-higher in
-          let far = p.far-low in
-          let near-inner = q.near-low in
-          let far-inner = q.far-low in
-          let left = height-around s o k x in
-          let right = height-around s y i b in
-          let top = height-around s (around s o k x) j (around s y i b) in
-          joined-twice μ s m (Some k) o k x j y i short b lean.ready m₁ first m₂ second m₃ third (omega arith) (omega arith) (λ z e f. omega arith)
+      pub twice_joined : (m₃ : Memory R) → Linked μ s m₂ (around s o k x) j (around s y i b) m₃ → Joined μ s m (around s o k (around s x j y)) i b m₃ (around s (around s o k x) j (around s y i b))
+      twice_joined m₃ third =
+          let p = open_tall in
+          let q = open_inner in
+          let h = height_around s o k (around s x j y) in
+          let hn = height_around s x j y in
+          let two = lean.two_higher in
+          let far = p.far_low in
+          let near-inner = q.near_low in
+          let far-inner = q.far_low in
+          let left = height_around s o k x in
+          let right = height_around s y i b in
+          let top = height_around s (around s o k x) j (around s y i b) in
+          joined_twice μ s m (Some k) o k x j y i short b lean.ready m₁ first m₂ second m₃ third (omega arith) (omega arith) (λ z e f. omega arith)
 
 pub leaning : {R : Type 0} {m : Memory R} {k : ℕ} {i : ℕ} {short : Option ℕ} (s : Side) (a b : Tree) (outer inner : Option ℕ) (o n : Tree) → Ready m (Some k) a i short b → height a ≡ suc (suc (height b)) →
     a ≡ around s o k n → outer ≡ root o → inner ≡ root n → Leaning m s outer o k inner n i short b
 leaning {m} {k} {i} {short} s a b outer inner o n ready two is e f =
-    record { ready = subst (λ (z : Tree). Ready m (Some k) z i short b) is ready; outer-root = e; inner-root = f; two-higher = sym (ap height is) ∙ two }
+    record { ready = subst (λ (z : Tree). Ready m (Some k) z i short b) is ready; outer_root = e; inner_root = f; two_higher = sym (ap height is) ∙ two }
 
 -- What the two sides of slot k are, once memory was asked.
 pub record Seen {R : Type 0} (m : Memory R) (s : Side) (outer inner : Option ℕ) (k : ℕ) (a : Tree) : Type 0 where
   pub o : Tree
   pub n : Tree
   pub is : a ≡ around s o k n
-  pub outer-root : outer ≡ root o
-  pub inner-root : inner ≡ root n
+  pub outer_root : outer ≡ root o
+  pub inner_root : inner ≡ root n
   pub near : Holds nothing m o
   pub far : Holds nothing m n
 
@@ -140,8 +140,8 @@ module _ {R : Type 0} {m : Memory R} (s s' : Side) (turn : s' ≡ other s) (oute
         o = o;
         n = n;
         is = p.1.1;
-        outer-root = outer-is o n whole;
-        inner-root = inner-is n o (holds-turned nothing m s s' o k n turn whole);
+        outer_root = outer-is o n whole;
+        inner_root = inner-is n o (holds_turned nothing m s s' o k n turn whole);
         near = (parts nothing m s o k n whole).near;
         far = (parts nothing m s o k n whole).far;
       }
@@ -163,9 +163,9 @@ module _ {R : Type 0} {m : Memory R} {s : Side} {outer : Option ℕ} {o : Tree} 
             (
               record {
                 ready = subst (λ (z : Tree). Ready m (Some k) (around s o k z) i short b) is lean.ready;
-                outer-root = lean.outer-root;
-                inner-root = sym (root-around s x j y);
-                two-higher = subst (λ (z : Tree). height (around s o k z) ≡ suc (suc (height b))) is lean.two-higher;
+                outer_root = lean.outer_root;
+                inner_root = sym (root_around s x j y);
+                two_higher = subst (λ (z : Tree). height (around s o k z) ≡ suc (suc (height b))) is lean.two_higher;
               },
               subst (λ (z : Tree). height o < height z) is steep,
             ),

@@ -5,8 +5,8 @@ use Rattle.measure.specs.Measure.{Measure}
 use Rattle.chunks.specs.declared.side.Side.TheVariants.{Left, Right}
 use Rattle.chunks.specs.Tree.{Tree, leaf, node, root, slots}
 use Rattle.chunks.specs.Footprint.{one, count, uses, below}
-use Rattle.chunks.proofs.Footprint.{count-append, uses-node, below-few}
-use Rattle.chunks.proofs.Sides.{leaf-if-none, opened}
+use Rattle.chunks.proofs.Footprint.{count_append, uses_node, below_few}
+use Rattle.chunks.proofs.Sides.{leaf_if_none, opened}
 use Rattle.slots.specs.declared.memory.Memory.{Memory}
 use Rattle.slots.specs.Claim.{Claim, nothing, Fair}
 use Rattle.slots.specs.View.{size_of, Roomy}
@@ -14,38 +14,38 @@ use Rattle.slots.specs.Holds.{Holds, Owned, Ready}
 use Rattle.slots.specs.Frame.{Frame}
 use Rattle.slots.specs.Join.{Joined}
 use Rattle.slots.specs.Split.{Held, Apart, Halved, Appended}
-use Rattle.slots.proofs.Frame.{frame-trans, frame-more, frame-none, size_same, roomy-same}
-use Rattle.slots.proofs.Holds.{holds_frame, owned-frame}
+use Rattle.slots.proofs.Frame.{frame_trans, frame_more, frame_none, size_same, roomy_same}
+use Rattle.slots.proofs.Holds.{holds_frame, owned_frame}
 use Rattle.slots.proofs.Rotating.{Seen}
 
-take-nil : (n : ℕ) → take {A = ℕ} n [] ≡ []
-take-nil zero = refl
-take-nil (suc n) = refl
+take_nil : (n : ℕ) → take {A = ℕ} n [] ≡ []
+take_nil zero = refl
+take_nil (suc n) = refl
 
-drop-nil : (n : ℕ) → drop {A = ℕ} n [] ≡ []
-drop-nil zero = refl
-drop-nil (suc n) = refl
+drop_nil : (n : ℕ) → drop {A = ℕ} n [] ≡ []
+drop_nil zero = refl
+drop_nil (suc n) = refl
 
 -- Behind a list and one element more.
-pub take-plus : (xs ys : List ℕ) (n : ℕ) → take (length xs + n) (xs ++ ys) ≡ xs ++ take n ys
-take-plus [] ys n = simp zero-add
-take-plus (x ∷ xs) ys n = let e : suc (length xs) + n ≡ suc (length xs + n) = omega arith in ap (λ k. take k (x ∷ (xs ++ ys))) e ∙ ap (λ l. x ∷ l) (take-plus xs ys n)
+pub take_plus : (xs ys : List ℕ) (n : ℕ) → take (length xs + n) (xs ++ ys) ≡ xs ++ take n ys
+take_plus [] ys n = simp zero-add
+take_plus (x ∷ xs) ys n = let e : suc (length xs) + n ≡ suc (length xs + n) = omega arith in ap (λ k. take k (x ∷ (xs ++ ys))) e ∙ ap (λ l. x ∷ l) (take_plus xs ys n)
 
-pub drop-plus : (xs ys : List ℕ) (n : ℕ) → drop (length xs + n) (xs ++ ys) ≡ drop n ys
-drop-plus [] ys n = simp zero-add
-drop-plus (x ∷ xs) ys n = let e : suc (length xs) + n ≡ suc (length xs + n) = omega arith in ap (λ k. drop k (x ∷ (xs ++ ys))) e ∙ drop-plus xs ys n
+pub drop_plus : (xs ys : List ℕ) (n : ℕ) → drop (length xs + n) (xs ++ ys) ≡ drop n ys
+drop_plus [] ys n = simp zero-add
+drop_plus (x ∷ xs) ys n = let e : suc (length xs) + n ≡ suc (length xs + n) = omega arith in ap (λ k. drop k (x ∷ (xs ++ ys))) e ∙ drop_plus xs ys n
 
 take_behind : (xs ys : List ℕ) (i at : ℕ) → length xs < at → take at (xs ++ (i ∷ ys)) ≡ xs ++ (i ∷ take (at - length xs - 1) ys)
 take_behind xs ys i at h =
-    let e : at ≡ length xs + suc (at - length xs - 1) = omega arith in ap (λ k. take k (xs ++ (i ∷ ys))) e ∙ take-plus xs (i ∷ ys) (suc (at - length xs - 1))
+    let e : at ≡ length xs + suc (at - length xs - 1) = omega arith in ap (λ k. take k (xs ++ (i ∷ ys))) e ∙ take_plus xs (i ∷ ys) (suc (at - length xs - 1))
 
-drop-behind : (xs ys : List ℕ) (i at : ℕ) → length xs < at → drop at (xs ++ (i ∷ ys)) ≡ drop (at - length xs - 1) ys
-drop-behind xs ys i at h =
-    let e : at ≡ length xs + suc (at - length xs - 1) = omega arith in ap (λ k. drop k (xs ++ (i ∷ ys))) e ∙ drop-plus xs (i ∷ ys) (suc (at - length xs - 1))
+drop_behind : (xs ys : List ℕ) (i at : ℕ) → length xs < at → drop at (xs ++ (i ∷ ys)) ≡ drop (at - length xs - 1) ys
+drop_behind xs ys i at h =
+    let e : at ≡ length xs + suc (at - length xs - 1) = omega arith in ap (λ k. drop k (xs ++ (i ∷ ys))) e ∙ drop_plus xs (i ∷ ys) (suc (at - length xs - 1))
 
 -- The tree that a link leads to, with the slot on top taken out, and its two sides.
-pub held-open : {R : Type 0} {m : Memory R} {link : Option ℕ} {t : Tree} (i : ℕ) (left right : Option ℕ) (held : Held m link t) (v : Seen m Left left right i t) → Held m link (node v.o i v.n)
-held-open {m} {link} i left right held v = subst (λ (z : Tree). Held m link z) v.is held
+pub held_open : {R : Type 0} {m : Memory R} {link : Option ℕ} {t : Tree} (i : ℕ) (left right : Option ℕ) (held : Held m link t) (v : Seen m Left left right i t) → Held m link (node v.o i v.n)
+held_open {m} {link} i left right held v = subst (λ (z : Tree). Held m link z) v.is held
 
 -- The two sides of the slot that a link leads to.
 pub sides : {R : Type 0} {m : Memory R} {link : Option ℕ} {i : ℕ} {t : Tree} → link ≡ Some i → Held m link t → (l : Tree) × ((r : Tree) × ((t ≡ node l i r) × Held m link (node l i r)))
@@ -54,106 +54,106 @@ sides {m} {link} {i} {t} is held =
     (p.0, (p.1.0, (p.1.1, subst (λ (z : Tree). Held m link z) p.1.1 held)))
 
 module _ {R : Type 0} {m : Memory R} {link : Option ℕ} {l : Tree} {i : ℕ} {r : Tree} (held : Held m link (node l i r)) where
-  pub held-left : (left : Option ℕ) → left ≡ root l → Held m left l
-  held-left left e = record { roomy = held.roomy; root_is = e; holds = held.holds.1.0; once = λ j. omega (arith, held.once j, uses-node l i r j) }
+  pub held_left : (left : Option ℕ) → left ≡ root l → Held m left l
+  held_left left e = record { roomy = held.roomy; root_is = e; holds = held.holds.1.0; once = λ j. omega (arith, held.once j, uses_node l i r j) }
 
-  pub held-right : (right : Option ℕ) → right ≡ root r → Held m right r
-  held-right right e = record { roomy = held.roomy; root_is = e; holds = held.holds.1.1; once = λ j. omega (arith, held.once j, uses-node l i r j) }
+  pub held_right : (right : Option ℕ) → right ≡ root r → Held m right r
+  held_right right e = record { roomy = held.roomy; root_is = e; holds = held.holds.1.1; once = λ j. omega (arith, held.once j, uses_node l i r j) }
 
 module _ {R : Type 0} (μ : Measure R) where
   -- Both parts of a tree use what the tree uses.
-  pub halved-uses : {m after : Memory R} {t : Tree} {at : ℕ} {a b : Tree} → Halved μ m t at after a b → (j : ℕ) → uses a j + uses b j ≡ uses t j
-  halved-uses {t} {at} {a} {b} h j =
+  pub halved_uses : {m after : Memory R} {t : Tree} {at : ℕ} {a b : Tree} → Halved μ m t at after a b → (j : ℕ) → uses a j + uses b j ≡ uses t j
+  halved_uses {t} {at} {a} {b} h j =
       let front = ap (λ l. count l j) h.front in
       let back = ap (λ l. count l j) h.back in
-      let both = count-append (take at (slots t)) (drop at (slots t)) j in
+      let both = count_append (take at (slots t)) (drop at (slots t)) j in
       let all = ap (λ l. count l j) (take-append-drop at (slots t)) in
       omega arith
 
   module _ {m : Memory R} {link : Option ℕ} {l : Tree} {i : ℕ} {r : Tree} (held : Held m link (node l i r)) where
     -- The left side is cut.
     module _ (at : ℕ) (within : at ≤ length (slots l)) {m₁ : Memory R} {a b : Tree} (cut : Halved μ m l at m₁ a b) where
-      right-stays : (w : Claim R) → Holds w m r → Holds w m₁ r
-      right-stays w h = holds_frame w m m₁ _ cut.frame r (λ j. omega (arith, held.once j, uses-node l i r j, below-few m.usable j)) h
+      right_stays : (w : Claim R) → Holds w m r → Holds w m₁ r
+      right_stays w h = holds_frame w m m₁ _ cut.frame r (λ j. omega (arith, held.once j, uses_node l i r j, below_few m.usable j)) h
 
-      pub left-ready : (rest right : Option ℕ) → rest ≡ root b → right ≡ root r → Ready m₁ rest b i right r
-      left-ready rest right e f =
+      pub left_ready : (rest right : Option ℕ) → rest ≡ root b → right ≡ root r → Ready m₁ rest b i right r
+      left_ready rest right e f =
           let here = held.holds.0 in
           let size = size_same m m₁ _ cut.frame i in
           let u = cut.frame.usable in
           let known = here.known in
           record {
-            roomy = roomy-same m m₁ _ cut.frame held.roomy;
+            roomy = roomy_same m m₁ _ cut.frame held.roomy;
             known = omega arith;
-            near-root = e;
-            far-root = f;
-            near-holds = (cut.keeps nothing tt held.holds.1.0).1;
-            far-holds = right-stays nothing held.holds.1.1;
-            once = λ j. subst (λ z. uses b j + (one i j + uses r j) ≤ below z j) (sym u) (omega (arith, held.once j, uses-node l i r j, halved-uses cut j));
+            near_root = e;
+            far_root = f;
+            near_holds = (cut.keeps nothing tt held.holds.1.0).1;
+            far_holds = right_stays nothing held.holds.1.1;
+            once = λ j. subst (λ z. uses b j + (one i j + uses r j) ≤ below z j) (sym u) (omega (arith, held.once j, uses_node l i r j, halved_uses cut j));
             some_byte = subst (λ z. 1 ≤ z) (sym size) here.some_byte;
             few_bytes = subst (λ z. z ≤ 64) (sym size) here.few_bytes;
           }
 
-      pub left-halved : {m₂ : Memory R} {t : Tree} → Joined μ Left m₁ b i r m₂ t → Halved μ m (node l i r) at m₂ a t
-      left-halved {m₂} {t} joined = record {
-        frame = frame-more m m₂ _ _ (λ j e. omega (arith, uses-node l i r j, halved-uses cut j)) (frame-trans m m₁ m₂ _ _ cut.frame joined.frame);
+      pub left_halved : {m₂ : Memory R} {t : Tree} → Joined μ Left m₁ b i r m₂ t → Halved μ m (node l i r) at m₂ a t
+      left_halved {m₂} {t} joined = record {
+        frame = frame_more m m₂ _ _ (λ j e. omega (arith, uses_node l i r j, halved_uses cut j)) (frame_trans m m₁ m₂ _ _ cut.frame joined.frame);
         front = cut.front ∙ sym (take-append-le at (slots l) (i ∷ slots r) within);
         back = joined.order ∙ ap (λ z. z ++ (i ∷ slots r)) cut.back ∙ sym (drop-append-le at (slots l) (i ∷ slots r) within);
         keeps = λ w fair h.
             let both = cut.keeps w fair h.1.0 in (
-              holds_frame w m₁ m₂ _ joined.frame a (λ j. omega (arith, held.once j, uses-node l i r j, halved-uses cut j, below-few m.usable j)) both.0,
-              joined.keeps w fair both.1 (right-stays w h.1.1) (owned-frame w m m₁ _ cut.frame i (record { own = λ d. (h.0.placed d).own })),
+              holds_frame w m₁ m₂ _ joined.frame a (λ j. omega (arith, held.once j, uses_node l i r j, halved_uses cut j, below_few m.usable j)) both.0,
+              joined.keeps w fair both.1 (right_stays w h.1.1) (owned_frame w m m₁ _ cut.frame i (record { own = λ d. (h.0.placed d).own })),
             );
       }
 
     -- The right side is cut.
     module _ (at : ℕ) (beyond : length (slots l) < at) {m₁ : Memory R} {a b : Tree} (cut : Halved μ m r (at - length (slots l) - 1) m₁ a b) where
-      left-stays : (w : Claim R) → Holds w m l → Holds w m₁ l
-      left-stays w h = holds_frame w m m₁ _ cut.frame l (λ j. omega (arith, held.once j, uses-node l i r j, below-few m.usable j)) h
+      left_stays : (w : Claim R) → Holds w m l → Holds w m₁ l
+      left_stays w h = holds_frame w m m₁ _ cut.frame l (λ j. omega (arith, held.once j, uses_node l i r j, below_few m.usable j)) h
 
-      pub right-ready : (left first : Option ℕ) → left ≡ root l → first ≡ root a → Ready m₁ left l i first a
-      right-ready left first e f =
+      pub right_ready : (left first : Option ℕ) → left ≡ root l → first ≡ root a → Ready m₁ left l i first a
+      right_ready left first e f =
           let here = held.holds.0 in
           let size = size_same m m₁ _ cut.frame i in
           let u = cut.frame.usable in
           let known = here.known in
           record {
-            roomy = roomy-same m m₁ _ cut.frame held.roomy;
+            roomy = roomy_same m m₁ _ cut.frame held.roomy;
             known = omega arith;
-            near-root = e;
-            far-root = f;
-            near-holds = left-stays nothing held.holds.1.0;
-            far-holds = (cut.keeps nothing tt held.holds.1.1).0;
-            once = λ j. subst (λ z. uses l j + (one i j + uses a j) ≤ below z j) (sym u) (omega (arith, held.once j, uses-node l i r j, halved-uses cut j));
+            near_root = e;
+            far_root = f;
+            near_holds = left_stays nothing held.holds.1.0;
+            far_holds = (cut.keeps nothing tt held.holds.1.1).0;
+            once = λ j. subst (λ z. uses l j + (one i j + uses a j) ≤ below z j) (sym u) (omega (arith, held.once j, uses_node l i r j, halved_uses cut j));
             some_byte = subst (λ z. 1 ≤ z) (sym size) here.some_byte;
             few_bytes = subst (λ z. z ≤ 64) (sym size) here.few_bytes;
           }
 
-      pub right-halved : {m₂ : Memory R} {t : Tree} → Joined μ Left m₁ l i a m₂ t → Halved μ m (node l i r) at m₂ t b
-      right-halved {m₂} {t} joined = record {
-        frame = frame-more m m₂ _ _ (λ j e. omega (arith, uses-node l i r j, halved-uses cut j)) (frame-trans m m₁ m₂ _ _ cut.frame joined.frame);
+      pub right_halved : {m₂ : Memory R} {t : Tree} → Joined μ Left m₁ l i a m₂ t → Halved μ m (node l i r) at m₂ t b
+      right_halved {m₂} {t} joined = record {
+        frame = frame_more m m₂ _ _ (λ j e. omega (arith, uses_node l i r j, halved_uses cut j)) (frame_trans m m₁ m₂ _ _ cut.frame joined.frame);
         front = joined.order ∙ ap (λ z. slots l ++ (i ∷ z)) cut.front ∙ sym (take_behind (slots l) (slots r) i at beyond);
-        back = cut.back ∙ sym (drop-behind (slots l) (slots r) i at beyond);
+        back = cut.back ∙ sym (drop_behind (slots l) (slots r) i at beyond);
         keeps = λ w fair h.
             let both = cut.keeps w fair h.1.1 in (
-              joined.keeps w fair (left-stays w h.1.0) both.0 (owned-frame w m m₁ _ cut.frame i (record { own = λ d. (h.0.placed d).own })),
-              holds_frame w m₁ m₂ _ joined.frame b (λ j. omega (arith, held.once j, uses-node l i r j, halved-uses cut j, below-few m.usable j)) both.1,
+              joined.keeps w fair (left_stays w h.1.0) both.0 (owned_frame w m m₁ _ cut.frame i (record { own = λ d. (h.0.placed d).own })),
+              holds_frame w m₁ m₂ _ joined.frame b (λ j. omega (arith, held.once j, uses_node l i r j, halved_uses cut j, below_few m.usable j)) both.1,
             );
       }
 
   -- Nothing is cut into nothing.
-  pub none-halved : {m : Memory R} {link : Option ℕ} {t : Tree} (held : Held m link t) (at : ℕ) → t ≡ leaf → Halved μ m t at m leaf leaf
-  none-halved {m} {link} {t} held at is = record {
-    frame = frame-none m (uses t);
-    front = sym (ap (λ (z : Tree). take at (slots z)) is ∙ take-nil at);
-    back = sym (ap (λ (z : Tree). drop at (slots z)) is ∙ drop-nil at);
+  pub none_halved : {m : Memory R} {link : Option ℕ} {t : Tree} (held : Held m link t) (at : ℕ) → t ≡ leaf → Halved μ m t at m leaf leaf
+  none_halved {m} {link} {t} held at is = record {
+    frame = frame_none m (uses t);
+    front = sym (ap (λ (z : Tree). take at (slots z)) is ∙ take_nil at);
+    back = sym (ap (λ (z : Tree). drop at (slots z)) is ∙ drop_nil at);
     keeps = λ w fair h. (tt, tt);
   }
 
 -- The last slot of a tree, cut off from the others.
-last-alone : (z : Tree) (k : ℕ) → Some k ≡ root z → length (slots z) ≡ 1 → slots z ≡ k ∷ []
-last-alone leaf k e h = let y : ◌≡◌ {A = ℕ} 0 1 = cc in let no : ⊥ = omega arith in absurd no
-last-alone (node l i r) k e h =
+last_alone : (z : Tree) (k : ℕ) → Some k ≡ root z → length (slots z) ≡ 1 → slots z ≡ k ∷ []
+last_alone leaf k e h = let y : ◌≡◌ {A = ℕ} 0 1 = cc in let no : ⊥ = omega arith in absurd no
+last_alone (node l i r) k e h =
     let same : i ≡ k = cc in
     let long = length-append (slots l) (i ∷ slots r) in
     let left = nil_from_length (slots l) (omega arith) in
@@ -170,11 +170,11 @@ here_of w m (node l i r) k e (here, _) =
 
 module _ {R : Type 0} (μ : Measure R) {m : Memory R} {first : Option ℕ} {a : Tree} {rest : Option ℕ} {b : Tree} (apart : Apart m first a rest b) where
   pub held_first : Held m first a
-  held_first = record { roomy = apart.roomy; root_is = apart.first-root; holds = apart.first_holds; once = λ j. omega (arith, apart.once j) }
+  held_first = record { roomy = apart.roomy; root_is = apart.first_root; holds = apart.first_holds; once = λ j. omega (arith, apart.once j) }
 
-  pub append-none : length (slots a) ≡ 0 → Appended μ m a b m b
-  append-none none = record {
-    frame = frame-none m _;
+  pub append_none : length (slots a) ≡ 0 → Appended μ m a b m b
+  append_none none = record {
+    frame = frame_none m _;
     order = ap (λ z. z ++ slots b) (sym (nil_from_length (slots a) none));
     keeps = λ w fair ha hb. hb;
   }
@@ -184,40 +184,40 @@ module _ {R : Type 0} (μ : Measure R) {m : Memory R} {first : Option ℕ} {a : 
     last_one = ap length cut.back ∙ length-drop at (slots a) ∙ omega arith
 
     pub last_some : None ≡ root z → ⊥
-    last_some e = let none = leaf-if-none z e in let zero-long = ap (λ (t : Tree). length (slots t)) none in omega (arith, last_one)
+    last_some e = let none = leaf_if_none z e in let zero-long = ap (λ (t : Tree). length (slots t)) none in omega (arith, last_one)
 
     module _ (k : ℕ) (top : Some k ≡ root z) where
       whole : slots a ≡ slots f ++ (k ∷ [])
-      whole = sym (take-append-drop at (slots a)) ∙ ap (λ l. l ++ drop at (slots a)) (sym cut.front) ∙ ap (λ l. slots f ++ l) (sym cut.back ∙ last-alone z k top last_one)
+      whole = sym (take-append-drop at (slots a)) ∙ ap (λ l. l ++ drop at (slots a)) (sym cut.front) ∙ ap (λ l. slots f ++ l) (sym cut.back ∙ last_alone z k top last_one)
 
       counted : (j : ℕ) → uses a j ≡ uses f j + (one k j + 0)
-      counted j = ap (λ l. count l j) whole ∙ count-append (slots f) (k ∷ []) j
+      counted j = ap (λ l. count l j) whole ∙ count_append (slots f) (k ∷ []) j
 
-      rest-stays : (w : Claim R) → Holds w m b → Holds w m₁ b
-      rest-stays w h = holds_frame w m m₁ _ cut.frame b (λ j. omega (arith, apart.once j, below-few m.usable j)) h
+      rest_stays : (w : Claim R) → Holds w m b → Holds w m₁ b
+      rest_stays w h = holds_frame w m m₁ _ cut.frame b (λ j. omega (arith, apart.once j, below_few m.usable j)) h
 
-      pub append-ready : (front : Option ℕ) → front ≡ root f → Ready m₁ front f k rest b
-      append-ready front e =
+      pub append_ready : (front : Option ℕ) → front ≡ root f → Ready m₁ front f k rest b
+      append_ready front e =
           let both = cut.keeps nothing tt apart.first_holds in
           let here = here_of nothing m₁ z k top both.1 in
           let u = cut.frame.usable in
           record {
-            roomy = roomy-same m m₁ _ cut.frame apart.roomy;
+            roomy = roomy_same m m₁ _ cut.frame apart.roomy;
             known = here.1.0;
-            near-root = e;
-            far-root = apart.rest-root;
-            near-holds = both.0;
-            far-holds = rest-stays nothing apart.rest-holds;
+            near_root = e;
+            far_root = apart.rest_root;
+            near_holds = both.0;
+            far_holds = rest_stays nothing apart.rest_holds;
             once = λ j. subst (λ n. uses f j + (one k j + uses b j) ≤ below n j) (sym u) (omega (arith, apart.once j, counted j));
             some_byte = here.1.1.0;
             few_bytes = here.1.1.1;
           }
 
-      pub append-joined : {m₂ : Memory R} {t : Tree} → Joined μ Left m₁ f k b m₂ t → Appended μ m a b m₂ t
-      append-joined {m₂} {t} joined = record {
-        frame = frame-more m m₂ _ _ (λ j e. omega (arith, counted j)) (frame-trans m m₁ m₂ _ _ cut.frame joined.frame);
+      pub append_joined : {m₂ : Memory R} {t : Tree} → Joined μ Left m₁ f k b m₂ t → Appended μ m a b m₂ t
+      append_joined {m₂} {t} joined = record {
+        frame = frame_more m m₂ _ _ (λ j e. omega (arith, counted j)) (frame_trans m m₁ m₂ _ _ cut.frame joined.frame);
         order = joined.order ∙ sym (append_assoc (slots f) (k ∷ []) (slots b)) ∙ ap (λ l. l ++ slots b) (sym whole);
         keeps = λ w fair ha hb.
             let both = cut.keeps w fair ha in
-            joined.keeps w fair both.0 (rest-stays w hb) (here_of w m₁ z k top both.1).0;
+            joined.keeps w fair both.0 (rest_stays w hb) (here_of w m₁ z k top both.1).0;
       }

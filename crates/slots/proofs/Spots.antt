@@ -4,56 +4,56 @@ use Rattle.std.proofs.lemmas.List.{length-map, length-append}
 use Rattle.chunks.specs.declared.spot.Spot.{Spot}
 use Rattle.chunks.specs.Tree.{Tree, node, slots}
 use Rattle.chunks.specs.Spot.{shifted, spot_in}
-use Rattle.chunks.proofs.Spotting.{spot-left, spot-right, spot-here, spot-behind, spot-few}
+use Rattle.chunks.proofs.Spotting.{spot_left, spot_right, spot_here, spot_behind, spot_few}
 use Rattle.slots.specs.declared.memory.Memory.{Memory}
 use Rattle.slots.specs.declared.slot.Extent.{Extent}
-use Rattle.slots.specs.View.{size_of, chunk_of, chunks_of, text_of, extent-of}
+use Rattle.slots.specs.View.{size_of, chunk_of, chunks_of, text_of, extent_of}
 use Rattle.slots.specs.Split.{Held}
-use Rattle.slots.proofs.Text.{chunks-node, chunk-length}
-use Rattle.chunks.proofs.Footprint.{few-below}
+use Rattle.slots.proofs.Text.{chunks_node, chunk_length}
+use Rattle.chunks.proofs.Footprint.{few_below}
 
-module _ {R : Type 0} {m : Memory R} {link : Option ℕ} {l : Tree} {i : ℕ} {r : Tree} (held : Held m link (node l i r)) (e : Extent) (is : e ≡ extent-of m l) (place : ℕ) where
-  bytes-is : e.bytes ≡ length (text_of m l)
-  bytes-is = ap (λ (x : Extent). x.bytes) is
+module _ {R : Type 0} {m : Memory R} {link : Option ℕ} {l : Tree} {i : ℕ} {r : Tree} (held : Held m link (node l i r)) (e : Extent) (is : e ≡ extent_of m l) (place : ℕ) where
+  bytes_is : e.bytes ≡ length (text_of m l)
+  bytes_is = ap (λ (x : Extent). x.bytes) is
 
-  chunks-is : e.chunks ≡ length (chunks_of m l)
-  chunks-is = ap (λ (x : Extent). x.chunks) is ∙ sym (length-map (slots l) (chunk_of m))
+  chunks_is : e.chunks ≡ length (chunks_of m l)
+  chunks_is = ap (λ (x : Extent). x.chunks) is ∙ sym (length-map (slots l) (chunk_of m))
 
-  own-long : length (chunk_of m i) ≡ size_of m i
-  own-long = chunk-length m held.roomy i held.holds.0.known held.holds.0.few_bytes
+  own_long : length (chunk_of m i) ≡ size_of m i
+  own_long = chunk_length m held.roomy i held.holds.0.known held.holds.0.few_bytes
 
-  pub spot-on-left : place < e.bytes → spot_in (chunks_of m l) place ≡ spot_in (chunks_of m (node l i r)) place
-  spot-on-left h = sym (ap (λ cs. spot_in cs place) (chunks-node m l i r) ∙ spot-left (chunks_of m l) (chunk_of m i ∷ chunks_of m r) place (omega (arith, bytes-is)))
+  pub spot_on_left : place < e.bytes → spot_in (chunks_of m l) place ≡ spot_in (chunks_of m (node l i r)) place
+  spot_on_left h = sym (ap (λ cs. spot_in cs place) (chunks_node m l i r) ∙ spot_left (chunks_of m l) (chunk_of m i ∷ chunks_of m r) place (omega (arith, bytes_is)))
 
   module _ (behind : e.bytes ≤ place) where
-    on-right : spot_in (chunks_of m (node l i r)) place ≡ shifted e.chunks (spot_in (chunk_of m i ∷ chunks_of m r) (place - e.bytes))
-    on-right =
-        ap (λ cs. spot_in cs place) (chunks-node m l i r)
-        ∙ spot-right (chunks_of m l) (chunk_of m i ∷ chunks_of m r) place (omega (arith, bytes-is))
-        ∙ ap (λ n. shifted n (spot_in (chunk_of m i ∷ chunks_of m r) (place - length (text_of m l)))) (sym chunks-is)
-        ∙ ap (λ n. shifted e.chunks (spot_in (chunk_of m i ∷ chunks_of m r) (place - n))) (sym bytes-is)
+    on_right : spot_in (chunks_of m (node l i r)) place ≡ shifted e.chunks (spot_in (chunk_of m i ∷ chunks_of m r) (place - e.bytes))
+    on_right =
+        ap (λ cs. spot_in cs place) (chunks_node m l i r)
+        ∙ spot_right (chunks_of m l) (chunk_of m i ∷ chunks_of m r) place (omega (arith, bytes_is))
+        ∙ ap (λ n. shifted n (spot_in (chunk_of m i ∷ chunks_of m r) (place - length (text_of m l)))) (sym chunks_is)
+        ∙ ap (λ n. shifted e.chunks (spot_in (chunk_of m i ∷ chunks_of m r) (place - n))) (sym bytes_is)
 
-    pub spot-in-own : (size : ℕ) → size ≡ size_of m i → place - e.bytes < size → record { chunk = e.chunks; inside = place - e.bytes; size = size } ≡ spot_in (chunks_of m (node l i r)) place
-    spot-in-own size same h =
+    pub spot_in_own : (size : ℕ) → size ≡ size_of m i → place - e.bytes < size → record { chunk = e.chunks; inside = place - e.bytes; size = size } ≡ spot_in (chunks_of m (node l i r)) place
+    spot_in_own size same h =
         let none : e.chunks ≡ e.chunks + 0 = omega arith in
-        let long : size ≡ length (chunk_of m i) = same ∙ sym own-long in
+        let long : size ≡ length (chunk_of m i) = same ∙ sym own_long in
         let lift : record { chunk = e.chunks; inside = place - e.bytes; size = size } ≡ shifted e.chunks (record { chunk = 0; inside = place - e.bytes; size = length (chunk_of m i) }) = λ z. record { chunk = none z; inside = place - e.bytes; size = long z } in
-        lift ∙ ap (shifted e.chunks) (sym (spot-here (chunk_of m i) (chunks_of m r) (place - e.bytes) (omega arith))) ∙ sym on-right
+        lift ∙ ap (shifted e.chunks) (sym (spot_here (chunk_of m i) (chunks_of m r) (place - e.bytes) (omega arith))) ∙ sym on_right
 
-    pub spot-on-right : (size : ℕ) → size ≡ size_of m i → size ≤ place - e.bytes → (rest : Spot) → rest ≡ spot_in (chunks_of m r) (place - e.bytes - size) →
+    pub spot_on_right : (size : ℕ) → size ≡ size_of m i → size ≤ place - e.bytes → (rest : Spot) → rest ≡ spot_in (chunks_of m r) (place - e.bytes - size) →
         record { chunk = e.chunks + 1 + rest.chunk; inside = rest.inside; size = rest.size } ≡ spot_in (chunks_of m (node l i r)) place
-    spot-on-right size same h rest at =
+    spot_on_right size same h rest at =
         let sum : e.chunks + 1 + rest.chunk ≡ e.chunks + (1 + rest.chunk) = omega arith in
         let lift : record { chunk = e.chunks + 1 + rest.chunk; inside = rest.inside; size = rest.size } ≡ shifted e.chunks (shifted 1 rest) = λ z. record { chunk = sum z; inside = rest.inside; size = rest.size } in
-        let long : size ≡ length (chunk_of m i) = same ∙ sym own-long in
+        let long : size ≡ length (chunk_of m i) = same ∙ sym own_long in
         lift
         ∙ ap (λ (s : Spot). shifted e.chunks (shifted 1 s)) (at ∙ ap (λ n. spot_in (chunks_of m r) (place - e.bytes - n)) long)
-        ∙ ap (shifted e.chunks) (sym (spot-behind (chunk_of m i) (chunks_of m r) (place - e.bytes) (omega arith)))
-        ∙ sym on-right
+        ∙ ap (shifted e.chunks) (sym (spot_behind (chunk_of m i) (chunks_of m r) (place - e.bytes) (omega arith)))
+        ∙ sym on_right
 
-    pub spot-fits : (q : ℕ) (rest : Spot) → rest ≡ spot_in (chunks_of m r) q → e.chunks + 1 + rest.chunk ≤ 4096
-    spot-fits q rest at =
+    pub spot_fits : (q : ℕ) (rest : Spot) → rest ≡ spot_in (chunks_of m r) q → e.chunks + 1 + rest.chunk ≤ 4096
+    spot_fits q rest at =
         let few = held.roomy.few in
-        let all = few-below m.usable (slots (node l i r)) held.once in
+        let all = few_below m.usable (slots (node l i r)) held.once in
         let count = ap (λ (s : Spot). s.chunk) at in
-        omega (arith, chunks-is, spot-few (chunks_of m r) q, length-map (slots r) (chunk_of m), length-map (slots l) (chunk_of m), length-append (slots l) (i ∷ slots r))
+        omega (arith, chunks_is, spot_few (chunks_of m r) q, length-map (slots r) (chunk_of m), length-map (slots l) (chunk_of m), length-append (slots l) (i ∷ slots r))

@@ -23,12 +23,12 @@ pub record Idle {R : Type 0} (m : Memory R) (is : List ℕ) : Type 0 where
 -- Elsewhere than in the slots that were touched, all is as it was.
 pub record Elsewhere {R : Type 0} (m after : Memory R) (touched : ℕ → ℕ) : Type 0 where
   pub usable : after.usable ≡ m.usable
-  pub slot-count : length after.slots.now ≡ length m.slots.now
-  pub reading-count : length after.readings.now ≡ length m.readings.now
-  pub store-count : length after.store.now ≡ length m.store.now
+  pub slot_count : length after.slots.now ≡ length m.slots.now
+  pub reading_count : length after.readings.now ≡ length m.readings.now
+  pub store_count : length after.store.now ≡ length m.store.now
   pub slot_same : (j : ℕ) → touched j ≡ 0 → (d : Slot R) → slice_index_or after.slots.now j d ≡ slice_index_or m.slots.now j d
-  pub reading-same : (j : ℕ) → touched j ≡ 0 → (d : R) → slice_index_or after.readings.now j d ≡ slice_index_or m.readings.now j d
-  pub chunk-same : (j : ℕ) → touched j ≡ 0 → size_of m j ≤ 64 → chunk_of after j ≡ chunk_of m j
+  pub reading_same : (j : ℕ) → touched j ≡ 0 → (d : R) → slice_index_or after.readings.now j d ≡ slice_index_or m.readings.now j d
+  pub chunk_same : (j : ℕ) → touched j ≡ 0 → size_of m j ≤ 64 → chunk_of after j ≡ chunk_of m j
 
 -- The slots of a tree on top of free ones, in the order in which they are given back.
 abbrev pub freed : Tree → List ℕ → List ℕ
@@ -39,7 +39,7 @@ freed (node l i r) is = i ∷ freed r (freed l is)
 pub record Written {R : Type 0} (m : Memory R) (i : ℕ) (bytes : List ℕ) (own : R) (after : Memory R) : Type 0 where
   pub elsewhere : Elsewhere m after (one i)
   pub free : after.free ≡ m.free
-  pub chunk-is : chunk_of after i ≡ bytes
+  pub chunk_is : chunk_of after i ≡ bytes
   pub size_is : size_of after i ≡ length bytes
   pub own_is : (d : Slot R) → (get_or after.slots.now i d).own ≡ own
 
@@ -47,7 +47,7 @@ pub record Written {R : Type 0} (m : Memory R) (i : ℕ) (bytes : List ℕ) (own
 pub record Stored {R : Type 0} (μ : Measure R) (m : Memory R) (i : ℕ) (is : List ℕ) (bytes : List ℕ) (after : Memory R) : Type 0 where
   pub elsewhere : Elsewhere m after (one i)
   pub stack : Stack after after.free is
-  pub chunk-is : chunk_of after i ≡ bytes
+  pub chunk_is : chunk_of after i ≡ bytes
   pub size_is : size_of after i ≡ length bytes
   pub owned : (w : Claim R) → Fair w μ → Owned w after i
 
@@ -56,5 +56,5 @@ pub record Built {R : Type 0} (μ : Measure R) (m : Memory R) (is : List ℕ) (n
   pub elsewhere : Elsewhere m after (count (take n is))
   pub stack : Stack after after.free (drop n is)
   pub used : (j : ℕ) → uses t j ≡ count (take n is) j
-  pub chunks-are : chunks_of after t ≡ chunks
+  pub chunks_are : chunks_of after t ≡ chunks
   pub holds : (w : Claim R) → Fair w μ → Holds w after t

@@ -5,14 +5,14 @@ use Rattle.chunks.specs.Footprint.{one, uses, below}
 use Rattle.slots.specs.declared.memory.Memory.{Memory}
 use Rattle.slots.specs.declared.slot.Slot.{Slot}
 use Rattle.slots.specs.Claim.{Claim, nothing, Says}
-use Rattle.slots.specs.View.{size_of, chunk_of, text_of, extent-of, Roomy}
+use Rattle.slots.specs.View.{size_of, chunk_of, text_of, extent_of, Roomy}
 
 module _ {R : Type 0} (w : Claim R) (m : Memory R) where
   -- What a slot says that is between the trees l and r.
   pub record Placed (l : Tree) (i : ℕ) (r : Tree) (slot : Slot R) : Type 0 where
     pub left : slot.node.left ≡ root l
     pub right : slot.node.right ≡ root r
-    pub extent : slot.node.extent ≡ extent-of m (node l i r)
+    pub extent : slot.node.extent ≡ extent_of m (node l i r)
     pub own : Says w slot.own (chunk_of m i)
 
   -- Slot i is between the trees l and r, which are level. (An element of a list is stated for every default.)
@@ -36,10 +36,10 @@ module _ {R : Type 0} (w : Claim R) (m : Memory R) where
 pub record Ready {R : Type 0} (m : Memory R) (near : Option ℕ) (a : Tree) (i : ℕ) (far : Option ℕ) (b : Tree) : Type 0 where
   pub roomy : Roomy m
   pub known : i < m.usable
-  pub near-root : near ≡ root a
-  pub far-root : far ≡ root b
-  pub near-holds : Holds nothing m a
-  pub far-holds : Holds nothing m b
+  pub near_root : near ≡ root a
+  pub far_root : far ≡ root b
+  pub near_holds : Holds nothing m a
+  pub far_holds : Holds nothing m b
   pub once : (j : ℕ) → uses a j + (one i j + uses b j) ≤ below m.usable j
   pub some_byte : 1 ≤ size_of m i
   pub few_bytes : size_of m i ≤ 64

@@ -17,7 +17,7 @@ abbrev pub Keeps : {R : Type 0} → Measure R → Memory R → Tree → ℕ → 
 Keeps {R} μ m a i b after t = (w : Claim R) → Fair w μ → Holds w m a → Holds w m b → Owned w m i → Holds w after t
 
 -- A slot's place and the reading of what lies under it were written, and nothing else.
-pub record Placed-anew {R : Type 0} (m : Memory R) (i : ℕ) (place : Node) (sum : R) (after : Memory R) : Type 0 where
+pub record PlacedAnew {R : Type 0} (m : Memory R) (i : ℕ) (place : Node) (sum : R) (after : Memory R) : Type 0 where
   pub frame : Frame m after (one i)
   pub place_is : (d : Slot R) → (get_or after.slots.now i d).node ≡ place
   pub sum_is : (d : R) → slice_index_or after.readings.now i d ≡ sum
@@ -31,8 +31,8 @@ pub record Linked {R : Type 0} (μ : Measure R) (s : Side) (m : Memory R) (a : T
 pub record Joined {R : Type 0} (μ : Measure R) (s : Side) (m : Memory R) (a : Tree) (i : ℕ) (b : Tree) (after : Memory R) (t : Tree) : Type 0 where
   pub frame : Frame m after (λ j. uses a j + (one i j + uses b j))
   pub order : slots t ≡ run s (slots a) i (slots b)
-  pub over-near : height a ≤ height t
-  pub over-far : height b ≤ height t
+  pub over_near : height a ≤ height t
+  pub over_far : height b ≤ height t
   pub high : (n : ℕ) → height a ≤ n → height b ≤ n → height t ≤ suc n
   pub keeps : Keeps μ m a i b after t
 
@@ -44,15 +44,15 @@ pub record Settled {R : Type 0} (μ : Measure R) (s : Side) (m : Memory R) (a : 
 -- The tree of slot k, between o and n, is two higher than b.
 pub record Leaning {R : Type 0} (m : Memory R) (s : Side) (outer : Option ℕ) (o : Tree) (k : ℕ) (inner : Option ℕ) (n : Tree) (i : ℕ) (short : Option ℕ) (b : Tree) : Type 0 where
   pub ready : Ready m (Some k) (around s o k n) i short b
-  pub outer-root : outer ≡ root o
-  pub inner-root : inner ≡ root n
-  pub two-higher : height (around s o k n) ≡ suc (suc (height b))
+  pub outer_root : outer ≡ root o
+  pub inner_root : inner ≡ root n
+  pub two_higher : height (around s o k n) ≡ suc (suc (height b))
 
 -- The tree b may have grown to be two higher than a, which is at most one higher than b.
 pub record Grown {R : Type 0} (m : Memory R) (near : Option ℕ) (a : Tree) (i : ℕ) (far : Option ℕ) (b : Tree) : Type 0 where
   pub ready : Ready m near a i far b
-  pub far-low : height b ≤ suc (suc (height a))
-  pub near-low : height a ≤ suc (height b)
+  pub far_low : height b ≤ suc (suc (height a))
+  pub near_low : height a ≤ suc (height b)
 
 -- The top of a tree n, where it is higher than o by more than `by`.
 abbrev pub Steep : Tree → Tree → ℕ → Option ℕ → Type 0

@@ -21,29 +21,29 @@ pub record Whole {R : Type 0} (m : Memory R) (link : Option ℕ) (t : Tree) (is 
 -- The same of two trees.
 pub record Parted {R : Type 0} (m : Memory R) (first : Option ℕ) (a : Tree) (rest : Option ℕ) (b : Tree) (is : List ℕ) : Type 0 where
   pub roomy : Roomy m
-  pub first-root : first ≡ root a
-  pub rest-root : rest ≡ root b
+  pub first_root : first ≡ root a
+  pub rest_root : rest ≡ root b
   pub first_holds : Holds nothing m a
-  pub rest-holds : Holds nothing m b
+  pub rest_holds : Holds nothing m b
   pub stack : Stack m m.free is
   pub all : (j : ℕ) → uses a j + uses b j + count is j ≡ below m.usable j
 
 -- The lent slices are as long as they were, and as many slots may be used.
-pub record Same-size {R : Type 0} (m after : Memory R) : Type 0 where
+pub record SameSize {R : Type 0} (m after : Memory R) : Type 0 where
   pub usable : after.usable ≡ m.usable
-  pub slot-count : length after.slots.now ≡ length m.slots.now
-  pub reading-count : length after.readings.now ≡ length m.readings.now
-  pub store-count : length after.store.now ≡ length m.store.now
+  pub slot_count : length after.slots.now ≡ length m.slots.now
+  pub reading_count : length after.readings.now ≡ length m.readings.now
+  pub store_count : length after.store.now ≡ length m.store.now
 
 -- The chunks from `from` up to `to` were taken out: a has those before them, b those behind.
 pub record Removed {R : Type 0} (μ : Measure R) (m : Memory R) (t : Tree) (from to : ℕ) (after : Memory R) (a b : Tree) : Type 0 where
-  pub same_size : Same-size m after
+  pub same_size : SameSize m after
   pub before : chunks_of after a ≡ take from (chunks_of m t)
   pub behind : chunks_of after b ≡ drop to (chunks_of m t)
   pub keeps : (w : Claim R) → Fair w μ → Holds w m t → Holds w after a × Holds w after b
 
 -- The chunks that bytes are cut into were put between the chunks of a and b.
 pub record Filled {R : Type 0} (μ : Measure R) (m : Memory R) (a b : Tree) (bytes : List ℕ) (after : Memory R) (t : Tree) : Type 0 where
-  pub same_size : Same-size m after
-  pub chunks-are : chunks_of after t ≡ chunks_of m a ++ (cut bytes ++ chunks_of m b)
+  pub same_size : SameSize m after
+  pub chunks_are : chunks_of after t ≡ chunks_of m a ++ (cut bytes ++ chunks_of m b)
   pub keeps : (w : Claim R) → Fair w μ → Holds w m a → Holds w m b → Holds w after t

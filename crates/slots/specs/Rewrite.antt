@@ -14,7 +14,7 @@ use Rattle.slots.specs.Free.{Elsewhere}
 pub record Renewed {R : Type 0} (μ : Measure R) (m : Memory R) (i n : ℕ) (bytes : List ℕ) (count from to : ℕ) (after : Memory R) : Type 0 where
   pub elsewhere : Elsewhere m after (one i)
   pub free : after.free ≡ m.free
-  pub chunk-is : chunk_of after i ≡ renewed bytes count from to n (chunk_of m i)
+  pub chunk_is : chunk_of after i ≡ renewed bytes count from to n (chunk_of m i)
   pub some_byte : 1 ≤ size_of after i
   pub few_bytes : size_of after i ≤ 64
   pub keeps : (w : Claim R) → Fair w μ → Owned w m i → Owned w after i
@@ -23,5 +23,5 @@ pub record Renewed {R : Type 0} (μ : Measure R) (m : Memory R) (i n : ℕ) (byt
 pub record Rewritten {R : Type 0} (μ : Measure R) (m : Memory R) (t : Tree) (n : ℕ) (bytes : List ℕ) (count from to : ℕ) (after : Memory R) : Type 0 where
   pub elsewhere : Elsewhere m after (uses t)
   pub free : after.free ≡ m.free
-  pub chunks-are : chunks_of after t ≡ over bytes count from to n (chunks_of m t)
+  pub chunks_are : chunks_of after t ≡ over bytes count from to n (chunks_of m t)
   pub keeps : (w : Claim R) → Fair w μ → Holds w m t → Holds w after t

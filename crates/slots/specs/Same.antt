@@ -2,9 +2,9 @@
 use Rattle.std.specs.Prelude.{◌≡◌, ℕ, ◌+◌, List, length, take, drop, Some, None, Option}
 
 -- The given list has the bytes from `at` on.
-abbrev pub Has-at : List ℕ → List ℕ → ℕ → Type 0
-Has-at bytes given at = take (length bytes) (drop at given) ≡ bytes
+abbrev pub HasAt : List ℕ → List ℕ → ℕ → Type 0
+HasAt bytes given at = take (length bytes) (drop at given) ≡ bytes
 
 abbrev pub Compared : List ℕ → List ℕ → ℕ → Option ℕ → Type 0
-Compared bytes given at (Some end) = (end ≡ at + length bytes) × Has-at bytes given at
-Compared bytes given at None = Has-at bytes given at → ⊥
+Compared bytes given at (Some end) = (end ≡ at + length bytes) × HasAt bytes given at
+Compared bytes given at None = HasAt bytes given at → ⊥

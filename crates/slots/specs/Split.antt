@@ -19,10 +19,10 @@ pub record Held {R : Type 0} (m : Memory R) (link : Option ℕ) (t : Tree) : Typ
 -- Two links lead to two such trees, and no slot is in both.
 pub record Apart {R : Type 0} (m : Memory R) (first : Option ℕ) (a : Tree) (rest : Option ℕ) (b : Tree) : Type 0 where
   pub roomy : Roomy m
-  pub first-root : first ≡ root a
-  pub rest-root : rest ≡ root b
+  pub first_root : first ≡ root a
+  pub rest_root : rest ≡ root b
   pub first_holds : Holds nothing m a
-  pub rest-holds : Holds nothing m b
+  pub rest_holds : Holds nothing m b
   pub once : (j : ℕ) → uses a j + uses b j ≤ below m.usable j
 
 -- The first slots of t, as many as `at`, are those of a; the others are those of b.

@@ -24,17 +24,17 @@ module _ {R : Type 0} (m : Memory R) where
   abbrev pub text_of : Tree → List ℕ
   text_of t = joined (chunks_of t)
 
-  abbrev pub extent-of : Tree → Extent
-  extent-of t = record { height = height t; bytes = length (text_of t); chunks = length (slots t) }
+  abbrev pub extent_of : Tree → Extent
+  extent_of t = record { height = height t; bytes = length (text_of t); chunks = length (slots t) }
 
   -- The height that memory says of the tree that a link leads to.
-  abbrev pub height-at : Option ℕ → ℕ
-  height-at None = 0
-  height-at (Some i) = slice_index (map (λ s. s.node.extent.height) m.slots.now) i
+  abbrev pub height_at : Option ℕ → ℕ
+  height_at None = 0
+  height_at (Some i) = slice_index (map (λ s. s.node.extent.height) m.slots.now) i
 
   -- Memory has room for what may be used.
   pub record Roomy : Type 0 where
     pub few : m.usable ≤ 4096
-    pub slot-each : m.usable ≤ length m.slots.now
-    pub reading-each : m.usable ≤ length m.readings.now
-    pub store-each : 64 * m.usable ≤ length m.store.now
+    pub slot_each : m.usable ≤ length m.slots.now
+    pub reading_each : m.usable ≤ length m.readings.now
+    pub store_each : 64 * m.usable ≤ length m.store.now

@@ -1,4 +1,7 @@
 // One measured tree of chunks in lent memory, for every kind of reading. No call of it asks anything of its caller.
+
+#![tactic(auto)]
+
 pub mod chunk_tree;
 pub mod lent;
 

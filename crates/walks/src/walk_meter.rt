@@ -2,8 +2,8 @@
 ghost use Rattle.std.specs.Prelude.{◌≡◌, ◌≤◌, length};
 ghost use Rattle.automaton.specs.Automaton.{Automaton};
 ghost use Rattle.measure.specs.Bounded.{longest};
-ghost use Rattle.measure.specs.Walk.{walk-measure, rows, still as still-in, entry, entry_at, join-entries, through};
-ghost use Rattle.measure.proofs.Walk.{walk-lawful};
+ghost use Rattle.measure.specs.Walk.{walk_measure, rows, still as still_in, entry, entry_at, join_entries, through};
+ghost use Rattle.measure.proofs.Walk.{walk_lawful};
 
 use automaton::role::Role;
 use grammar::Grammar;
@@ -19,7 +19,7 @@ pub struct Walk<G> {
 
 // A walk through nothing.
 fn still(state: u8) -> Entry
-    ensures { result ≡ still-in state }
+    ensures { result ≡ still_in state }
 {
     Entry {
         end: state,
@@ -30,7 +30,7 @@ fn still(state: u8) -> Entry
 
 // Walks through nothing, from every state.
 fn still_rows() -> [Entry; 64]
-    ensures { result ≡ rows still-in }
+    ensures { result ≡ rows still_in }
 {
     let mut entries = [still(0); 64];
     for s in 0..64 {
@@ -52,7 +52,7 @@ fn entry_at(entries: &[Entry; 64], state: u8) -> Entry
 
 // Two walks, the second from where the first ends.
 fn join_entries(first: &Entry, second: &Entry) -> Entry
-    ensures { result ≡ join-entries first.now second.now }
+    ensures { result ≡ join_entries first.now second.now }
 {
     let matched = first.openings.min(second.closings);
     Entry {
@@ -116,9 +116,9 @@ impl<G: Grammar> Walk<G> {
 impl<G: Grammar> Meter for Walk<G> {
     type Reading = Bounded<Passage>;
 
-    ghost scale = { λ m. walk-measure (G.Grammar.meaning m.grammar) };
+    ghost scale = { λ m. walk_measure (G.Grammar.meaning m.grammar) };
 
-    ghost lawful = { λ m. walk-lawful (G.Grammar.meaning m.grammar) (G.Grammar.lawful m.grammar) };
+    ghost lawful = { λ m. walk_lawful (G.Grammar.meaning m.grammar) (G.Grammar.lawful m.grammar) };
 
     fn empty(&self) -> Bounded<Passage> {
         Bounded::Within(Passage {

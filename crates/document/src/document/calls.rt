@@ -1,14 +1,14 @@
 // The calls of a document. A refused one changes nothing and gives back what it was given.
 ghost use Rattle.std.specs.Prelude.{◌≡◌, ℕ, ◌-◌, ◌≤◌, length, is_ok, IfOk, IfErr, if◌then◌else◌, None, OnErr, OnOk};
 ghost use Rattle.std.specs.List.{between};
-ghost use Rattle.automaton.specs.Walk.{colours as colours-of};
+ghost use Rattle.automaton.specs.Walk.{colours as colours_of};
 ghost use Rattle.chunks.specs.Tree.{Balanced};
 ghost use Rattle.measure.specs.Measure.{Measure};
-ghost use Rattle.model.specs.Calls.{answered, refusal-in, open-refusal, opened, edit-refusal, edited, paint-refusal, settled, close-refusal, range-refusal, with-front};
-ghost use Rattle.model.specs.End.{edit-change};
+ghost use Rattle.model.specs.Calls.{answered, refusal_in, open_refusal, opened, edit_refusal, edited, paint_refusal, settled, close_refusal, range_refusal, with_front};
+ghost use Rattle.model.specs.End.{edit_change};
 ghost use Rattle.model.specs.Paint.{painted};
-ghost use Rattle.tree.specs.Public.{tree-in};
-ghost use Rattle.editing.specs.Content.{document-measure};
+ghost use Rattle.tree.specs.Public.{tree_in};
+ghost use Rattle.editing.specs.Content.{document_measure};
 ghost use Rattle.document.specs.Content.{model_of, text as text_of, Keeps, size_of, Unchanged};
 ghost use Rattle.document.specs.Tokens.{given_back};
 
@@ -34,7 +34,7 @@ impl<'t, 'a, R: Copy> Document<'t, 'a, R> {
 impl<R: Copy> Document<'_, '_, R> {
     // CLOSE takes a pass, and nothing else.
     pub fn close(&self, pass: Pass) -> Result<(), Refused<Pass>>
-        ensures { given_back result ≡ close-refusal (model_of self.now) }
+        ensures { given_back result ≡ close_refusal (model_of self.now) }
     {
         match self.try_close() {
             Ok(()) => {
@@ -50,8 +50,8 @@ impl<R: Copy> Document<'_, '_, R> {
 
     // TEXT: the bytes of a range, at the front of a buffer.
     pub fn text(&self, from: u32, to: u32, out: &mut [u8]) -> Result<(), Refusal>
-        ensures answer { result ≡ answered (range-refusal (model_of self.now) from to (length out.old)) tt }
-        ensures written { out.new ≡ (if is_ok result then with-front (between from to (text_of self.now)) out.old else out.old) }
+        ensures answer { result ≡ answered (range_refusal (model_of self.now) from to (length out.old)) tt }
+        ensures written { out.new ≡ (if is_ok result then with_front (between from to (text_of self.now)) out.old else out.old) }
     {
         copy_text(self.tree, from, to, out)
     }
@@ -59,7 +59,7 @@ impl<R: Copy> Document<'_, '_, R> {
     // SIZE: bytes, chunks and height, together.
     pub fn size(&self) -> (u32, u16, u8)
         ensures is { result ≡ size_of self.now }
-        ensures balanced { Balanced (tree-in self.now.tree.now) }
+        ensures balanced { Balanced (tree_in self.now.tree.now) }
         ensures low { result.2 ≤ 16 }
     {
         (self.tree.bytes(), self.tree.chunks(), self.tree.height())
@@ -72,7 +72,7 @@ impl<X: Copy> Document<'_, '_, Readings<X>> {
         &mut self,
         meter: &DocumentMeter<G, H>,
     ) -> Result<Pass, Refusal>
-        ensures decides { refusal-in result ≡ open-refusal (model_of self.old) (G.Grammar.meaning meter.now.first.grammar).count }
+        ensures decides { refusal_in result ≡ open_refusal (model_of self.old) (G.Grammar.meaning meter.now.first.grammar).count }
         ensures after { model_of self.new ≡ (if is_ok result then opened (model_of self.old) else model_of self.old) }
         ensures keeps { (μ : Measure _) → Keeps self.old μ → Keeps self.new μ }
         ensures same { OnErr result (Unchanged self.old self.new) }
@@ -90,11 +90,11 @@ impl<X: Copy> Document<'_, '_, Readings<X>> {
         to: u32,
         bytes: &[u8],
     ) -> Result<Due, Refused<Pass>>
-        ensures decides { given_back result ≡ edit-refusal (model_of self.old) from to bytes.now }
+        ensures decides { given_back result ≡ edit_refusal (model_of self.old) from to bytes.now }
         ensures after { IfOk result (λ d. model_of self.new ≡ edited (model_of self.old) from to bytes.now d.change) }
         ensures numbers { IfOk result (λ d. (d.change.place ≡ from) × ((d.change.removed ≡ to - from) × (d.change.inserted ≡ length bytes.now))) }
-        ensures ends { IfOk result (λ d. Keeps self.old (document-measure (G.Grammar.meaning meter.now.first.grammar) (H.Meter.scale meter.now.second.second)) → d.change ≡ edit-change (G.Grammar.meaning meter.now.first.grammar) (text_of self.old) from to bytes.now) }
-        ensures keeps { Keeps self.old (document-measure (G.Grammar.meaning meter.now.first.grammar) (H.Meter.scale meter.now.second.second)) → Keeps self.new (document-measure (G.Grammar.meaning meter.now.first.grammar) (H.Meter.scale meter.now.second.second)) }
+        ensures ends { IfOk result (λ d. Keeps self.old (document_measure (G.Grammar.meaning meter.now.first.grammar) (H.Meter.scale meter.now.second.second)) → d.change ≡ edit_change (G.Grammar.meaning meter.now.first.grammar) (text_of self.old) from to bytes.now) }
+        ensures keeps { Keeps self.old (document_measure (G.Grammar.meaning meter.now.first.grammar) (H.Meter.scale meter.now.second.second)) → Keeps self.new (document_measure (G.Grammar.meaning meter.now.first.grammar) (H.Meter.scale meter.now.second.second)) }
         ensures same { OnErr result (Unchanged self.old self.new) }
     {
         match self.try_edit(meter, from, to, bytes) {
@@ -116,10 +116,10 @@ impl<X: Copy> Document<'_, '_, Readings<X>> {
         due: Due,
         screen: &mut [u8],
     ) -> Result<Pass, Refused<Due>>
-        ensures decides { given_back result ≡ paint-refusal (model_of self.old) due.change (length screen.old) }
+        ensures decides { given_back result ≡ paint_refusal (model_of self.old) due.change (length screen.old) }
         ensures after { model_of self.new ≡ (if is_ok result then settled (model_of self.old) else model_of self.old) }
         ensures tree { self.new.tree.now ≡ self.old.tree.now }
-        ensures painted { OnOk result (Keeps self.old (document-measure (G.Grammar.meaning meter.now.first.grammar) (H.Meter.scale meter.now.second.second)) → screen.new ≡ painted (G.Grammar.meaning meter.now.first.grammar) (text_of self.old) due.change screen.old) }
+        ensures painted { OnOk result (Keeps self.old (document_measure (G.Grammar.meaning meter.now.first.grammar) (H.Meter.scale meter.now.second.second)) → screen.new ≡ painted (G.Grammar.meaning meter.now.first.grammar) (text_of self.old) due.change screen.old) }
         ensures same { IfErr result (λ f. (f.back ≡ due) × (Unchanged self.old self.new × (screen.new ≡ screen.old))) }
     {
         match self.try_paint(meter, due.change, screen) {
@@ -139,8 +139,8 @@ impl<X: Copy> Document<'_, '_, Readings<X>> {
         to: u32,
         out: &mut [u8],
     ) -> Result<(), Refusal>
-        ensures answer { result ≡ answered (range-refusal (model_of self.now) from to (length out.old)) tt }
-        ensures written { OnOk result (Keeps self.now (document-measure (G.Grammar.meaning meter.now.first.grammar) (H.Meter.scale meter.now.second.second)) → out.new ≡ with-front (between from to (colours-of (G.Grammar.meaning meter.now.first.grammar) (text_of self.now))) out.old) }
+        ensures answer { result ≡ answered (range_refusal (model_of self.now) from to (length out.old)) tt }
+        ensures written { OnOk result (Keeps self.now (document_measure (G.Grammar.meaning meter.now.first.grammar) (H.Meter.scale meter.now.second.second)) → out.new ≡ with_front (between from to (colours_of (G.Grammar.meaning meter.now.first.grammar) (text_of self.now))) out.old) }
         ensures same { OnErr result (out.new ≡ out.old) }
     {
         copy_colours(self.tree, meter, from, to, out)

@@ -1,7 +1,7 @@
 // Calls carried out one after another, and the law over logs of calls.
 ghost use Rattle.std.specs.Prelude.{◌≡◌, List, ◌∷◌};
-ghost use Rattle.model.specs.Calls.{refusal-in};
-ghost use Rattle.editing.specs.Content.{document-measure};
+ghost use Rattle.model.specs.Calls.{refusal_in};
+ghost use Rattle.editing.specs.Content.{document_measure};
 ghost use Rattle.document.specs.Content.{Keeps};
 ghost use Rattle.document.specs.Log.{Snapshot, Entry, Obeys, replied, latest, Follows};
 
@@ -15,7 +15,7 @@ use walks::DocumentMeter;
 
 // The answer of a call that says `answer` where it is not refused.
 fn answer_unless(refused: Result<(), Refusal>, answer: Answer) -> Answer
-    ensures { result ≡ replied (refusal-in refused) answer }
+    ensures { result ≡ replied (refusal_in refused) answer }
 {
     match refused {
         Ok(()) => answer,
@@ -32,8 +32,8 @@ impl<X: Copy> Document<'_, '_, Readings<X>> {
         buffer: &mut [u8],
         call: Call,
     ) -> Answer
-        ensures obeys { Keeps self.old (document-measure (G.Grammar.meaning meter.now.first.grammar) (H.Meter.scale meter.now.second.second)) → Obeys (G.Grammar.meaning meter.now.first.grammar) (record { document = self.old; screen = screen.old; buffer = buffer.old }) (record { call = call.entry; answer = result; after = record { document = self.new; screen = screen.new; buffer = buffer.new } }) }
-        ensures keeps { Keeps self.old (document-measure (G.Grammar.meaning meter.now.first.grammar) (H.Meter.scale meter.now.second.second)) → Keeps self.new (document-measure (G.Grammar.meaning meter.now.first.grammar) (H.Meter.scale meter.now.second.second)) }
+        ensures obeys { Keeps self.old (document_measure (G.Grammar.meaning meter.now.first.grammar) (H.Meter.scale meter.now.second.second)) → Obeys (G.Grammar.meaning meter.now.first.grammar) (record { document = self.old; screen = screen.old; buffer = buffer.old }) (record { call = call.entry; answer = result; after = record { document = self.new; screen = screen.new; buffer = buffer.new } }) }
+        ensures keeps { Keeps self.old (document_measure (G.Grammar.meaning meter.now.first.grammar) (H.Meter.scale meter.now.second.second)) → Keeps self.new (document_measure (G.Grammar.meaning meter.now.first.grammar) (H.Meter.scale meter.now.second.second)) }
     {
         match call {
             Call::Size => {
@@ -75,9 +75,9 @@ impl<X: Copy> Document<'_, '_, Readings<X>> {
         buffer: &mut [u8],
         call: Call,
     ) -> Answer
-        ensures obeys { Keeps self.old (document-measure (G.Grammar.meaning meter.now.first.grammar) (H.Meter.scale meter.now.second.second)) → Obeys (G.Grammar.meaning meter.now.first.grammar) (record { document = self.old; screen = screen.old; buffer = buffer.old }) (record { call = call.entry; answer = result; after = record { document = self.new; screen = screen.new; buffer = buffer.new } }) }
-        ensures keeps { Keeps self.old (document-measure (G.Grammar.meaning meter.now.first.grammar) (H.Meter.scale meter.now.second.second)) → Keeps self.new (document-measure (G.Grammar.meaning meter.now.first.grammar) (H.Meter.scale meter.now.second.second)) }
-        ensures law { (first : Snapshot _) (log : List (Entry _)) → Follows (G.Grammar.meaning meter.now.first.grammar) (document-measure (G.Grammar.meaning meter.now.first.grammar) (H.Meter.scale meter.now.second.second)) first log → latest first log ≡ record { document = self.old; screen = screen.old; buffer = buffer.old } → Follows (G.Grammar.meaning meter.now.first.grammar) (document-measure (G.Grammar.meaning meter.now.first.grammar) (H.Meter.scale meter.now.second.second)) first (record { call = call.entry; answer = result; after = record { document = self.new; screen = screen.new; buffer = buffer.new } } ∷ log) }
+        ensures obeys { Keeps self.old (document_measure (G.Grammar.meaning meter.now.first.grammar) (H.Meter.scale meter.now.second.second)) → Obeys (G.Grammar.meaning meter.now.first.grammar) (record { document = self.old; screen = screen.old; buffer = buffer.old }) (record { call = call.entry; answer = result; after = record { document = self.new; screen = screen.new; buffer = buffer.new } }) }
+        ensures keeps { Keeps self.old (document_measure (G.Grammar.meaning meter.now.first.grammar) (H.Meter.scale meter.now.second.second)) → Keeps self.new (document_measure (G.Grammar.meaning meter.now.first.grammar) (H.Meter.scale meter.now.second.second)) }
+        ensures law { (first : Snapshot _) (log : List (Entry _)) → Follows (G.Grammar.meaning meter.now.first.grammar) (document_measure (G.Grammar.meaning meter.now.first.grammar) (H.Meter.scale meter.now.second.second)) first log → latest first log ≡ record { document = self.old; screen = screen.old; buffer = buffer.old } → Follows (G.Grammar.meaning meter.now.first.grammar) (document_measure (G.Grammar.meaning meter.now.first.grammar) (H.Meter.scale meter.now.second.second)) first (record { call = call.entry; answer = result; after = record { document = self.new; screen = screen.new; buffer = buffer.new } } ∷ log) }
     {
         self.carry_out(meter, screen, buffer, call)
     }

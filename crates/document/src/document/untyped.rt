@@ -1,10 +1,10 @@
 // The calls without their tokens: what a host's calls do, and what a log of calls replays.
 ghost use Rattle.std.specs.Prelude.{◌≡◌, ℕ, ◌-◌, Bool, List, length, is_ok, IfOk, if◌then◌else◌, OnErr, OnOk};
 ghost use Rattle.measure.specs.Measure.{Measure};
-ghost use Rattle.model.specs.Calls.{answered, refusal-in, open-refusal as open-refused, opened, edit-refusal, edited, same-change as changes-agree, paint-refusal, settled, close-refusal};
-ghost use Rattle.model.specs.End.{edit-change};
+ghost use Rattle.model.specs.Calls.{answered, refusal_in, open_refusal as open_refused, opened, edit_refusal, edited, same_change as changes_agree, paint_refusal, settled, close_refusal};
+ghost use Rattle.model.specs.End.{edit_change};
 ghost use Rattle.model.specs.Paint.{painted};
-ghost use Rattle.editing.specs.Content.{document-measure};
+ghost use Rattle.editing.specs.Content.{document_measure};
 ghost use Rattle.document.specs.Content.{model_of, text as text_of, Keeps, Unchanged};
 
 use crate::document::Document;
@@ -16,7 +16,7 @@ use walks::DocumentMeter;
 
 // Whether two changes have the same numbers.
 fn same_change(one: Change, other: Change) -> bool
-    ensures { result ≡ changes-agree one other }
+    ensures { result ≡ changes_agree one other }
 {
     one.place == other.place
         && one.removed == other.removed
@@ -27,7 +27,7 @@ fn same_change(one: Change, other: Change) -> bool
 impl<R: Copy> Document<'_, '_, R> {
     // Why OPEN is refused with a grammar of so many states, if it is.
     fn open_refusal(&self, states: u8) -> Option<Refusal>
-        ensures { result ≡ open-refused (model_of self.now) states }
+        ensures { result ≡ open_refused (model_of self.now) states }
     {
         let lent = self.tree.lent();
         if self.tree.usable() != 0 {
@@ -49,7 +49,7 @@ impl<R: Copy> Document<'_, '_, R> {
     }
 
     pub(crate) fn try_open(&mut self, states: u8) -> Result<(), Refusal>
-        ensures answer { result ≡ answered (open-refused (model_of self.old) states) tt }
+        ensures answer { result ≡ answered (open_refused (model_of self.old) states) tt }
         ensures after { model_of self.new ≡ (if is_ok result then opened (model_of self.old) else model_of self.old) }
         ensures keeps { (μ : Measure R) → Keeps self.old μ → Keeps self.new μ }
         ensures same { OnErr result (Unchanged self.old self.new) }
@@ -63,7 +63,7 @@ impl<R: Copy> Document<'_, '_, R> {
     }
 
     pub(crate) fn try_close(&self) -> Result<(), Refusal>
-        ensures { result ≡ answered (close-refusal (model_of self.now)) tt }
+        ensures { result ≡ answered (close_refusal (model_of self.now)) tt }
     {
         match self.due {
             Some(due) => Err(Refusal::DueStands(due.place as u64)),
@@ -80,11 +80,11 @@ impl<X: Copy> Document<'_, '_, Readings<X>> {
         to: u32,
         bytes: &[u8],
     ) -> Result<Change, Refusal>
-        ensures decides { refusal-in result ≡ edit-refusal (model_of self.old) from to bytes.now }
+        ensures decides { refusal_in result ≡ edit_refusal (model_of self.old) from to bytes.now }
         ensures after { IfOk result (λ c. model_of self.new ≡ edited (model_of self.old) from to bytes.now c) }
         ensures numbers { IfOk result (λ c. (c.place ≡ from) × ((c.removed ≡ to - from) × (c.inserted ≡ length bytes.now))) }
-        ensures ends { IfOk result (λ c. Keeps self.old (document-measure (G.Grammar.meaning meter.now.first.grammar) (H.Meter.scale meter.now.second.second)) → c ≡ edit-change (G.Grammar.meaning meter.now.first.grammar) (text_of self.old) from to bytes.now) }
-        ensures keeps { Keeps self.old (document-measure (G.Grammar.meaning meter.now.first.grammar) (H.Meter.scale meter.now.second.second)) → Keeps self.new (document-measure (G.Grammar.meaning meter.now.first.grammar) (H.Meter.scale meter.now.second.second)) }
+        ensures ends { IfOk result (λ c. Keeps self.old (document_measure (G.Grammar.meaning meter.now.first.grammar) (H.Meter.scale meter.now.second.second)) → c ≡ edit_change (G.Grammar.meaning meter.now.first.grammar) (text_of self.old) from to bytes.now) }
+        ensures keeps { Keeps self.old (document_measure (G.Grammar.meaning meter.now.first.grammar) (H.Meter.scale meter.now.second.second)) → Keeps self.new (document_measure (G.Grammar.meaning meter.now.first.grammar) (H.Meter.scale meter.now.second.second)) }
         ensures same { OnErr result (Unchanged self.old self.new) }
     {
         if let Some(due) = self.due {
@@ -101,10 +101,10 @@ impl<X: Copy> Document<'_, '_, Readings<X>> {
         change: Change,
         screen: &mut [u8],
     ) -> Result<(), Refusal>
-        ensures answer { result ≡ answered (paint-refusal (model_of self.old) change (length screen.old)) tt }
+        ensures answer { result ≡ answered (paint_refusal (model_of self.old) change (length screen.old)) tt }
         ensures after { model_of self.new ≡ (if is_ok result then settled (model_of self.old) else model_of self.old) }
         ensures tree { self.new.tree.now ≡ self.old.tree.now }
-        ensures painted { OnOk result (Keeps self.old (document-measure (G.Grammar.meaning meter.now.first.grammar) (H.Meter.scale meter.now.second.second)) → screen.new ≡ painted (G.Grammar.meaning meter.now.first.grammar) (text_of self.old) change screen.old) }
+        ensures painted { OnOk result (Keeps self.old (document_measure (G.Grammar.meaning meter.now.first.grammar) (H.Meter.scale meter.now.second.second)) → screen.new ≡ painted (G.Grammar.meaning meter.now.first.grammar) (text_of self.old) change screen.old) }
         ensures same { OnErr result (Unchanged self.old self.new × (screen.new ≡ screen.old)) }
     {
         let stands = match self.due {

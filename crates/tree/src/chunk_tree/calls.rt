@@ -1,15 +1,15 @@
 // What a chunk tree is asked and told.
 ghost use Rattle.std.specs.Prelude.{◌≡◌, ℕ, ◌+◌, ◌-◌, ◌*◌, ◌<◌, ◌≤◌, Bool, true, false, ◌&&◌, List, [], length, take, drop, if◌then◌else◌, None, Decides};
 ghost use Rattle.search.specs.Forwards.{stop};
-ghost use Rattle.search.specs.Backwards.{back-stop};
-ghost use Rattle.chunks.specs.Tree.{Balanced, height as height-of};
+ghost use Rattle.search.specs.Backwards.{back_stop};
+ghost use Rattle.chunks.specs.Tree.{Balanced, height as height_of};
 ghost use Rattle.chunks.specs.Cut.{joined, cut, replaced, Chunk};
 ghost use Rattle.std.specs.List.{AllByRecursion as All, range_with_len, between};
 ghost use Rattle.chunks.specs.Spot.{spot_in};
-ghost use Rattle.slots.specs.Replace.{Same-size};
+ghost use Rattle.slots.specs.Replace.{SameSize};
 ghost use Rattle.slots.specs.Sound.{free_of};
-ghost use Rattle.measure.specs.Measure.{Measure, reading as reading-of};
-ghost use Rattle.tree.specs.Public.{tree-in, chunks-now, usable-of, lent-to, Kept-by, copyable, preparable, replaceable};
+ghost use Rattle.measure.specs.Measure.{Measure, reading as reading_of};
+ghost use Rattle.tree.specs.Public.{tree_in, chunks_now, usable_of, lent_to, KeptBy, copyable, preparable, replaceable};
 ghost use Rattle.slots.specs.Copy.{pasted};
 
 use crate::chunk_tree::ChunkTree;
@@ -32,7 +32,7 @@ use seek::seek_tree::seek;
 impl<R: Copy> ChunkTree<'_, R> {
     // How many slots may be used: none before `prepare`.
     pub fn usable(&self) -> u16
-        ensures is { result ≡ usable-of self.now }
+        ensures is { result ≡ usable_of self.now }
         ensures few { result ≤ 4096 }
     {
         self.memory.usable
@@ -40,7 +40,7 @@ impl<R: Copy> ChunkTree<'_, R> {
 
     // How many slots, bytes of store and readings are lent.
     pub fn lent(&self) -> Lent
-        ensures { result ≡ lent-to self.now }
+        ensures { result ≡ lent_to self.now }
     {
         Lent {
             slots: self.memory.slots.len(),
@@ -51,7 +51,7 @@ impl<R: Copy> ChunkTree<'_, R> {
 
     // How many bytes there are: at most 262,144.
     pub fn bytes(&self) -> u32
-        ensures is { result ≡ length (joined (chunks-now self.now)) }
+        ensures is { result ≡ length (joined (chunks_now self.now)) }
         ensures few { result ≤ 262144 }
     {
         size(&self.memory, self.root).bytes
@@ -59,17 +59,17 @@ impl<R: Copy> ChunkTree<'_, R> {
 
     // How many chunks there are: no more than slots that may be used. Each has 1 to 64 bytes.
     pub fn chunks(&self) -> u16
-        ensures is { result ≡ length (chunks-now self.now) }
-        ensures few { result ≤ usable-of self.now }
-        ensures chunked { All Chunk (chunks-now self.now) }
+        ensures is { result ≡ length (chunks_now self.now) }
+        ensures few { result ≤ usable_of self.now }
+        ensures chunked { All Chunk (chunks_now self.now) }
     {
         size(&self.memory, self.root).chunks
     }
 
     // How high the tree is: it is balanced, so at most 16.
     pub fn height(&self) -> u8
-        ensures is { result ≡ height-of (tree-in self.now) }
-        ensures balanced { Balanced (tree-in self.now) }
+        ensures is { result ≡ height_of (tree_in self.now) }
+        ensures balanced { Balanced (tree_in self.now) }
         ensures low { result ≤ 16 }
     {
         size(&self.memory, self.root).height
@@ -77,7 +77,7 @@ impl<R: Copy> ChunkTree<'_, R> {
 
     // How many chunks lie before a place, how many bytes of the next one, and how long that one is.
     pub fn spot(&self, place: u32) -> Spot
-        ensures is { result ≡ spot_in (chunks-now self.now) place }
+        ensures is { result ≡ spot_in (chunks_now self.now) place }
         ensures few { result.chunk ≤ 4096 }
     {
         spot(&self.memory, self.root, place)
@@ -86,7 +86,7 @@ impl<R: Copy> ChunkTree<'_, R> {
     // Copies the bytes from `from` up to `to` to the front of `out`, where that is a range of the text and fits; says whether it did.
     pub fn copy(&self, from: u32, to: u32, out: &mut [u8]) -> bool
         ensures answer { result ≡ copyable self.now from to out.old }
-        ensures copied { out.new ≡ (if result then pasted out.old 0 (between from to (joined (chunks-now self.now))) else out.old) }
+        ensures copied { out.new ≡ (if result then pasted out.old 0 (between from to (joined (chunks_now self.now))) else out.old) }
     {
         if from > to || to > self.bytes() || (to - from) as usize > out.len() {
             return false;
@@ -97,7 +97,7 @@ impl<R: Copy> ChunkTree<'_, R> {
 
     // Whether the text from `place` on begins with `given`.
     pub fn same(&self, place: u32, given: &[u8]) -> bool
-        ensures { Decides result ((place ≤ length (joined (chunks-now self.now))) × (between place (place + length given.now) (joined (chunks-now self.now)) ≡ given.now)) }
+        ensures { Decides result ((place ≤ length (joined (chunks_now self.now))) × (between place (place + length given.now) (joined (chunks_now self.now)) ≡ given.now)) }
     {
         let bytes = self.bytes();
         if place > bytes {
@@ -117,15 +117,15 @@ impl<R: Copy> ChunkTree<'_, R> {
 
     // The reading of the bytes from `from` up to `to`, joined from the readings that slots keep and the cut ends' own bytes.
     pub fn reading<M: Meter<Reading = R>>(&self, meter: &M, from: u32, to: u32) -> R
-        ensures { Kept-by self.now (M.scale meter.now) → result ≡ reading-of (M.scale meter.now) (between from to (joined (chunks-now self.now))) }
+        ensures { KeptBy self.now (M.scale meter.now) → result ≡ reading_of (M.scale meter.now) (between from to (joined (chunks_now self.now))) }
     {
         range_reading(meter, &self.memory, self.root, from, to)
     }
 
     // Where a search comes to in the text from a place on: as defined, where the readings kept are those it looks into.
     pub fn seek<S: Forward<Reading = R>>(&self, search: &S, place: u32, at: S::At) -> Stop<S::At>
-        ensures within { result.passed ≤ length (drop place (joined (chunks-now self.now))) }
-        ensures finds { Kept-by self.now (S.scale search.now) → result ≡ stop (S.goes search.now) at (drop place (joined (chunks-now self.now))) }
+        ensures within { result.passed ≤ length (drop place (joined (chunks_now self.now))) }
+        ensures finds { KeptBy self.now (S.scale search.now) → result ≡ stop (S.goes search.now) at (drop place (joined (chunks_now self.now))) }
     {
         seek(search, &self.memory, self.root, place as usize, at)
     }
@@ -138,8 +138,8 @@ impl<R: Copy> ChunkTree<'_, R> {
         place: u32,
         at: S::At,
     ) -> Stop<S::At>
-        ensures within { result.passed ≤ length (take place (joined (chunks-now self.now))) }
-        ensures finds { Kept-by self.now (S.scale search.now) → result ≡ back-stop (S.fore search.now) (S.back search.now) state (take place (joined (chunks-now self.now))) at }
+        ensures within { result.passed ≤ length (take place (joined (chunks_now self.now))) }
+        ensures finds { KeptBy self.now (S.scale search.now) → result ≡ back_stop (S.fore search.now) (S.back search.now) state (take place (joined (chunks_now self.now))) at }
     {
         seek_backwards(search, &self.memory, self.root, state, place as usize, at)
     }
@@ -148,10 +148,10 @@ impl<R: Copy> ChunkTree<'_, R> {
     pub fn prepare(&mut self, n: u16) -> bool
         ensures answer { result ≡ preparable self.old n }
         ensures usable { self.new.memory.usable ≡ (if result then n else self.old.memory.usable) }
-        ensures lent { lent-to self.new ≡ lent-to self.old }
-        ensures chunks { chunks-now self.new ≡ (if result then [] else chunks-now self.old) }
+        ensures lent { lent_to self.new ≡ lent_to self.old }
+        ensures chunks { chunks_now self.new ≡ (if result then [] else chunks_now self.old) }
         ensures free { result ≡ true → free_of self.new.memory ≡ range_with_len 0 n }
-        ensures keeps { result ≡ true → (μ : Measure R) → Kept-by self.new μ }
+        ensures keeps { result ≡ true → (μ : Measure R) → KeptBy self.new μ }
         ensures store { self.new.memory.store.now ≡ self.old.memory.store.now }
         ensures readings { self.new.memory.readings.now ≡ self.old.memory.readings.now }
         ensures same { result ≡ false → (self.new.memory ≡ self.old.memory) × (self.new.root ≡ self.old.root) }
@@ -181,9 +181,9 @@ impl<R: Copy> ChunkTree<'_, R> {
         bytes: &[u8],
     ) -> bool
         ensures answer { result ≡ replaceable self.old from to bytes.now }
-        ensures chunks { chunks-now self.new ≡ (if result then replaced from to (cut bytes.now) (chunks-now self.old) else chunks-now self.old) }
-        ensures keeps { Kept-by self.old (M.scale meter.now) → Kept-by self.new (M.scale meter.now) }
-        ensures size { Same-size self.old.memory self.new.memory }
+        ensures chunks { chunks_now self.new ≡ (if result then replaced from to (cut bytes.now) (chunks_now self.old) else chunks_now self.old) }
+        ensures keeps { KeptBy self.old (M.scale meter.now) → KeptBy self.new (M.scale meter.now) }
+        ensures size { SameSize self.old.memory self.new.memory }
         ensures same { result ≡ false → (self.new.memory ≡ self.old.memory) × (self.new.root ≡ self.old.root) }
     {
         let chunks = self.chunks();

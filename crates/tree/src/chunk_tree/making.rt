@@ -1,6 +1,6 @@
 // A chunk tree put together from lent memory.
 ghost use Rattle.std.specs.Prelude.{◌≡◌, [], None};
-ghost use Rattle.tree.specs.Public.{chunks-now};
+ghost use Rattle.tree.specs.Public.{chunks_now};
 
 use crate::chunk_tree::ChunkTree;
 use slots::memory::Memory;
@@ -14,7 +14,7 @@ impl<'a, R: Copy> ChunkTree<'a, R> {
         readings: &'a mut [R],
     ) -> ChunkTree<'a, R>
         ensures usable { result.memory.usable ≡ 0 }
-        ensures chunks { chunks-now result ≡ [] }
+        ensures chunks { chunks_now result ≡ [] }
         ensures slots { result.memory.slots.now ≡ slots.old }
         ensures store { result.memory.store.now ≡ store.old }
         ensures readings { result.memory.readings.now ≡ readings.old }

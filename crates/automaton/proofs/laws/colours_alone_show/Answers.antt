@@ -1,5 +1,5 @@
-use Rattle.automaton.proofs.LawsHold.{colours-alone-show}
+use Rattle.automaton.proofs.LawsHold.{colours_alone_show}
 use Rattle.automaton.proofs.laws.colours_alone_show.Goals as goal
 
 pub returns : goal.returns
-returns c = colours-alone-show
+returns c = colours_alone_show

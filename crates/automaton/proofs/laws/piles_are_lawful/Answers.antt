@@ -1,5 +1,5 @@
-use Rattle.automaton.proofs.LawsHold.{piles-are-lawful}
+use Rattle.automaton.proofs.LawsHold.{piles_are_lawful}
 use Rattle.automaton.proofs.laws.piles_are_lawful.Goals as goal
 
 pub returns : goal.returns
-returns c = piles-are-lawful
+returns c = piles_are_lawful

@@ -2,67 +2,67 @@ use Rattle.std.proofs.Common.{◌≡◌, suc, ◌<◌, ◌≤◌, Some, sym, ap,
 use Rattle.chunks.specs.declared.side.Side.{Side}
 use Rattle.chunks.specs.Tree.{Tree, height, Level}
 use Rattle.chunks.specs.Sides.{other, around}
-use Rattle.chunks.proofs.Sides.{root-around}
+use Rattle.chunks.proofs.Sides.{root_around}
 use Rattle.slots.specs.Join.{Joined}
-use Rattle.slots.proofs.Turning.{ready_turned, joined-turned, joined-linked}
+use Rattle.slots.proofs.Turning.{ready_turned, joined_turned, joined_linked}
 use Rattle.slots.proofs.Rotating.{seen}
-use Rattle.slots.proofs.Joining.{height-held, down-ready, down-lower, down-grown, down-joined}
+use Rattle.slots.proofs.Joining.{height_held, down_ready, down_lower, down_grown, down_joined}
 use Rattle.balance.proofs.join.+join.Goals as goal
 
 pub join-joined-requires : goal.join-joined-requires
 join-joined-requires g t c κs within =
     let μ = g.M.Meter.scale c.args.meter.now in
     let ready = c.requires.1.1 in
-    let higher = c.in-Some.ensures _ _ ready.near-root ready.far-root ready.near-holds ready.far-holds in
-    let v = seen _ _ c.other.ensures _ _ _ c.child-outer.ensures c.child-inner.ensures _ higher.0 ready.near-holds in
+    let higher = c.in-Some.ensures _ _ ready.near_root ready.far_root ready.near_holds ready.far_holds in
+    let v = seen _ _ c.other.ensures _ _ _ c.child-outer.ensures c.child-inner.ensures _ higher.0 ready.near_holds in
     let m = c.args.memory.now in
-    let near = height-held m ready.roomy _ _ ready.near-root ready.near-holds in
-    let inner = height-held m ready.roomy v.n _ v.inner-root v.far in
-    let lower = down-lower μ _ ready v (omega (arith, higher.1)) in
+    let near = height_held m ready.roomy _ _ ready.near_root ready.near_holds in
+    let inner = height_held m ready.roomy v.n _ v.inner_root v.far in
+    let lower = down_lower μ _ ready v (omega (arith, higher.1)) in
     let measured = c.decreases in
-    (omega arith, (within.0, (within.1, (v.n, (c.requires.1.0, down-ready μ _ ready v (omega (arith, higher.1)))))))
+    (omega arith, (within.0, (within.1, (v.n, (c.requires.1.0, down_ready μ _ ready v (omega (arith, higher.1)))))))
 
 pub settle-requires : goal.settle-requires
 settle-requires g t c =
     let μ = g.M.Meter.scale c.args.meter.now in
     let ready = c.requires.1.1 in
-    let higher = c.in-Some.ensures _ _ ready.near-root ready.far-root ready.near-holds ready.far-holds in
-    let v = seen _ _ c.other.ensures _ _ _ c.child-outer.ensures c.child-inner.ensures _ higher.0 ready.near-holds in
-    let made = c.join-joined.ensures v.n _ (down-ready μ _ ready v (omega (arith, higher.1))) in
-    (v.o, (made.0, down-grown μ _ ready v (omega (arith, higher.1)) _ made.0 _ made.1.0 made.1.1))
+    let higher = c.in-Some.ensures _ _ ready.near_root ready.far_root ready.near_holds ready.far_holds in
+    let v = seen _ _ c.other.ensures _ _ _ c.child-outer.ensures c.child-inner.ensures _ higher.0 ready.near_holds in
+    let made = c.join-joined.ensures v.n _ (down_ready μ _ ready v (omega (arith, higher.1))) in
+    (v.o, (made.0, down_grown μ _ ready v (omega (arith, higher.1)) _ made.0 _ made.1.0 made.1.1))
 
 pub join-requires : goal.join-requires
 join-requires g t c κs within =
     let ready = c.requires.1.1 in
     let m = c.args.memory.now in
-    let near = height-held m ready.roomy _ _ ready.near-root ready.near-holds in
-    let far = height-held m ready.roomy _ _ ready.far-root ready.far-holds in
-    let higher = c.in-Some-top_if_higher.ensures _ _ ready.far-root ready.near-root ready.far-holds ready.near-holds in
+    let near = height_held m ready.roomy _ _ ready.near_root ready.near_holds in
+    let far = height_held m ready.roomy _ _ ready.far_root ready.far_holds in
+    let higher = c.in-Some-top_if_higher.ensures _ _ ready.far_root ready.near_root ready.far_holds ready.near_holds in
     let measured = c.decreases in
     (omega (arith, higher.1), (within.0, (within.1, (c.requires.1.0, (c.requires.0, ready_turned _ _ _ _ _ _ ready)))))
 
 pub returns-in-Some : goal.returns-in-Some
 returns-in-Some g t c a b ready =
     let μ = g.M.Meter.scale c.args.meter.now in
-    let higher = c.in-Some.ensures _ _ ready.near-root ready.far-root ready.near-holds ready.far-holds in
-    let v = seen _ _ c.other.ensures _ _ _ c.child-outer.ensures c.child-inner.ensures _ higher.0 ready.near-holds in
+    let higher = c.in-Some.ensures _ _ ready.near_root ready.far_root ready.near_holds ready.far_holds in
+    let v = seen _ _ c.other.ensures _ _ _ c.child-outer.ensures c.child-inner.ensures _ higher.0 ready.near_holds in
     let steep : suc (height b) < height a = omega (arith, higher.1) in
-    let made = c.join-joined.ensures v.n b (down-ready μ _ ready v steep) in
-    let grown = down-grown μ _ ready v steep _ made.0 _ made.1.0 made.1.1 in
+    let made = c.join-joined.ensures v.n b (down_ready μ _ ready v steep) in
+    let grown = down_grown μ _ ready v steep _ made.0 _ made.1.0 made.1.1 in
     let done = c.settle.ensures v.o made.0 grown in
-    (done.0, (done.1.0, down-joined μ _ ready v steep _ made.0 _ made.1.0 made.1.1 _ done.0 done.1.1))
+    (done.0, (done.1.0, down_joined μ _ ready v steep _ made.0 _ made.1.0 made.1.1 _ done.0 done.1.1))
 
 pub returns-in-Some-top_if_higher : goal.returns-in-Some-top_if_higher
 returns-in-Some-top_if_higher g t c a b ready =
     let μ = g.M.Meter.scale c.args.meter.now in
     let made = c.join.ensures b a (ready_turned _ _ _ _ _ _ ready) in
     let turned = subst (λ (s : Side). Joined μ s c.args.memory.now b c.args.i a c.join.new.memory made.0) c.other-in-Some-top_if_higher.ensures made.1.1 in
-    (made.0, (made.1.0, joined-turned μ c.args.side _ a _ b _ made.0 turned))
+    (made.0, (made.1.0, joined_turned μ c.args.side _ a _ b _ made.0 turned))
 
 pub returns-in_default-top_if_higher : goal.returns-in_default-top_if_higher
 returns-in_default-top_if_higher g t c a b ready =
     let μ = g.M.Meter.scale c.args.meter.now in
-    let near = c.in_default.ensures a b ready.near-root ready.far-root ready.near-holds ready.far-holds in
-    let far = c.in_default-top_if_higher.ensures b a ready.far-root ready.near-root ready.far-holds ready.near-holds in
-    let level : Level a b = record { left-low = omega (arith, near); right-low = omega (arith, far) } in
-    (around c.args.side a c.args.i b, (sym (root-around c.args.side a _ b), joined-linked μ c.args.side _ a _ b _ (c.link_around.ensures a b ready level)))
+    let near = c.in_default.ensures a b ready.near_root ready.far_root ready.near_holds ready.far_holds in
+    let far = c.in_default-top_if_higher.ensures b a ready.far_root ready.near_root ready.far_holds ready.near_holds in
+    let level : Level a b = record { left_low = omega (arith, near); right_low = omega (arith, far) } in
+    (around c.args.side a c.args.i b, (sym (root_around c.args.side a _ b), joined_linked μ c.args.side _ a _ b _ (c.link_around.ensures a b ready level)))

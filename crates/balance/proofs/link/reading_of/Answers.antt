@@ -3,9 +3,9 @@ use Rattle.chunks.specs.Tree.{Tree}
 use Rattle.slots.specs.Claim.{Claim, Says, Fair}
 use Rattle.slots.specs.View.{chunk_of, text_of}
 use Rattle.slots.specs.Holds.{Holds, Owned, Ready}
-use Rattle.slots.proofs.Says.{says-join, says_same}
-use Rattle.slots.proofs.Text.{text-node}
-use Rattle.slots.proofs.Linking.{summed_at, none-text}
+use Rattle.slots.proofs.Says.{says_join, says_same}
+use Rattle.slots.proofs.Text.{text_node}
+use Rattle.slots.proofs.Linking.{summed_at, none_text}
 use Rattle.balance.proofs.link.reading_of.Goals as goal
 use Rattle.balance.proofs.link.reading_of.Goals.{in-Some, in_default}
 
@@ -20,13 +20,13 @@ returns-in-Some-right g c l r ready w fair hl hr owned =
     elim c.match-left.branch [
       | in-Some v ↦
           let made : v.join-sum.result ≡ μ.join v.index-readings-l.result (get_or m.slots.now i c.index-slots-i.result).own = v.join-sum.ensures in
-          says_same w _ _ _ _ (sym (v.sum-is ∙ made)) refl (says-join μ lawful w fair _ _ _ _ (summed_at m w l _ (sym v.in-Some.is ∙ ready.near-root) hl _ v.index-readings-l.is) own)
-      | in_default v ↦ says_same w _ _ _ _ (sym v.sum-is) (sym (ap (λ z. z ++ chunk_of m i) (none-text m w l (sym v.in_default.is ∙ ready.near-root)))) own
+          says_same w _ _ _ _ (sym (v.sum-is ∙ made)) refl (says_join μ lawful w fair _ _ _ _ (summed_at m w l _ (sym v.in-Some.is ∙ ready.near_root) hl _ v.index-readings-l.is) own)
+      | in_default v ↦ says_same w _ _ _ _ (sym v.sum-is) (sym (ap (λ z. z ++ chunk_of m i) (none_text m w l (sym v.in_default.is ∙ ready.near_root)))) own
     ]
     in
-    let top = sym c.in-Some-right.is ∙ ready.far-root in
-    let both = says-join μ lawful w fair _ _ _ _ first (summed_at m w r _ top hr _ c.index-readings-r.is) in
-    says_same w _ _ _ _ (sym c.join-sum-in-Some-right.ensures) (append_assoc (text_of m l) (chunk_of m i) (text_of m r) ∙ sym (text-node m l i r)) both
+    let top = sym c.in-Some-right.is ∙ ready.far_root in
+    let both = says_join μ lawful w fair _ _ _ _ first (summed_at m w r _ top hr _ c.index-readings-r.is) in
+    says_same w _ _ _ _ (sym c.join-sum-in-Some-right.ensures) (append_assoc (text_of m l) (chunk_of m i) (text_of m r) ∙ sym (text_node m l i r)) both
 
 pub returns-in_default-right : goal.returns-in_default-right
 returns-in_default-right g c l r ready w fair hl hr owned =
@@ -39,9 +39,9 @@ returns-in_default-right g c l r ready w fair hl hr owned =
     elim c.match-left.branch [
       | in-Some v ↦
           let made : v.join-sum.result ≡ μ.join v.index-readings-l.result (get_or m.slots.now i c.index-slots-i.result).own = v.join-sum.ensures in
-          says_same w _ _ _ _ (sym (v.sum-is ∙ made)) refl (says-join μ lawful w fair _ _ _ _ (summed_at m w l _ (sym v.in-Some.is ∙ ready.near-root) hl _ v.index-readings-l.is) own)
-      | in_default v ↦ says_same w _ _ _ _ (sym v.sum-is) (sym (ap (λ z. z ++ chunk_of m i) (none-text m w l (sym v.in_default.is ∙ ready.near-root)))) own
+          says_same w _ _ _ _ (sym (v.sum-is ∙ made)) refl (says_join μ lawful w fair _ _ _ _ (summed_at m w l _ (sym v.in-Some.is ∙ ready.near_root) hl _ v.index-readings-l.is) own)
+      | in_default v ↦ says_same w _ _ _ _ (sym v.sum-is) (sym (ap (λ z. z ++ chunk_of m i) (none_text m w l (sym v.in_default.is ∙ ready.near_root)))) own
     ]
     in
-    let none = none-text m w r (sym c.in_default-right.is ∙ ready.far-root) in
-    says_same w _ _ _ _ refl (ap (λ z. text_of m l ++ z) (sym (append-nil (chunk_of m i)) ∙ ap (λ z. chunk_of m i ++ z) (sym none)) ∙ sym (text-node m l i r)) first
+    let none = none_text m w r (sym c.in_default-right.is ∙ ready.far_root) in
+    says_same w _ _ _ _ refl (ap (λ z. text_of m l ++ z) (sym (append-nil (chunk_of m i)) ∙ ap (λ z. chunk_of m i ++ z) (sym none)) ∙ sym (text_node m l i r)) first

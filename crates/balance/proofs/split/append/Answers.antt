@@ -1,31 +1,31 @@
 use Rattle.std.proofs.Common.{◌≡◌, suc, ◌-◌, length, sym, refl, ap, ◌∙◌, arith}
 use Rattle.chunks.specs.Tree.{slots}
 use Rattle.slots.specs.declared.slot.Extent.{Extent}
-use Rattle.slots.proofs.Splitting.{held_first, append-none, last_some, append-ready, append-joined}
+use Rattle.slots.proofs.Splitting.{held_first, append_none, last_some, append_ready, append_joined}
 use Rattle.balance.proofs.split.append.Goals as goal
 
 pub returns-then-count-eq0 : goal.returns-then-count-eq0
 returns-then-count-eq0 g c a b apart =
     let μ = g.M.Meter.scale c.args.meter.now in
-    let count = ap (λ (x : Extent). x.chunks) (c.extent-count.ensures a apart.first-root apart.first_holds) in
-    (b, (apart.rest-root, append-none μ apart (omega arith)))
+    let count = ap (λ (x : Extent). x.chunks) (c.extent-count.ensures a apart.first_root apart.first_holds) in
+    (b, (apart.rest_root, append_none μ apart (omega arith)))
 
 pub join-requires : goal.join-requires
 join-requires g c =
     let μ = g.M.Meter.scale c.args.meter.now in
     let a = c.requires.0 in
     let apart = c.requires.1.1 in
-    let count = ap (λ (x : Extent). x.chunks) (c.extent-count.ensures a apart.first-root apart.first_holds) in
+    let count = ap (λ (x : Extent). x.chunks) (c.extent-count.ensures a apart.first_root apart.first_holds) in
     let is : suc (c.extent-count.result.chunks - 1) ≡ length (slots a) = omega arith in
     let made = c.split-front.ensures a (held_first μ apart) in
-    (made.0, (c.requires.1.0, append-ready μ apart _ is made.1.1.1.1 _ (sym c.in-Some.is ∙ made.1.1.1.0) _ made.1.1.0))
+    (made.0, (c.requires.1.0, append_ready μ apart _ is made.1.1.1.1 _ (sym c.in-Some.is ∙ made.1.1.1.0) _ made.1.1.0))
 
 pub unreachable-requires : goal.unreachable-requires
 unreachable-requires g c =
     let μ = g.M.Meter.scale c.args.meter.now in
     let a = c.requires.0 in
     let apart = c.requires.1.1 in
-    let count = ap (λ (x : Extent). x.chunks) (c.extent-count.ensures a apart.first-root apart.first_holds) in
+    let count = ap (λ (x : Extent). x.chunks) (c.extent-count.ensures a apart.first_root apart.first_holds) in
     let is : suc (c.extent-count.result.chunks - 1) ≡ length (slots a) = omega arith in
     let made = c.split-front.ensures a (held_first μ apart) in
     last_some μ apart _ is made.1.1.1.1 (sym c.in-None.is ∙ made.1.1.1.0)
@@ -33,9 +33,9 @@ unreachable-requires g c =
 pub returns : goal.returns
 returns g c a b apart =
     let μ = g.M.Meter.scale c.args.meter.now in
-    let count = ap (λ (x : Extent). x.chunks) (c.extent-count.ensures a apart.first-root apart.first_holds) in
+    let count = ap (λ (x : Extent). x.chunks) (c.extent-count.ensures a apart.first_root apart.first_holds) in
     let is : suc (c.extent-count.result.chunks - 1) ≡ length (slots a) = omega arith in
     let made = c.split-front.ensures a (held_first μ apart) in
     let top = sym c.in-Some.is ∙ made.1.1.1.0 in
-    let done = c.join.ensures made.0 b (append-ready μ apart _ is made.1.1.1.1 _ top _ made.1.1.0) in
-    (done.0, (done.1.0, append-joined μ apart _ is made.1.1.1.1 _ top done.1.1))
+    let done = c.join.ensures made.0 b (append_ready μ apart _ is made.1.1.1.1 _ top _ made.1.1.0) in
+    (done.0, (done.1.0, append_joined μ apart _ is made.1.1.1.1 _ top done.1.1))

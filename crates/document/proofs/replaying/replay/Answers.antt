@@ -1,7 +1,7 @@
 use Rattle.std.proofs.Common.{◌≡◌, ℕ, ◌+◌, ◌<◌, List, [], ◌∷◌, ◌++◌, length, get_or, take, drop, set, sym, refl, ap, ◌∙◌, subst, arith}
 use Rattle.std.proofs.lemmas.List.{take_more, take_more_set, drop-set-lt, drop-drop}
-use Rattle.tree.specs.Public.{usable-of}
-use Rattle.editing.specs.Content.{document-measure}
+use Rattle.tree.specs.Public.{usable_of}
+use Rattle.editing.specs.Content.{document_measure}
 use Rattle.document.specs.declared.call.Call.TheVariants.{Size}
 use Rattle.document.specs.declared.call.Answer.{Answer}
 use Rattle.document.specs.Log.{Snapshot, Entry}
@@ -11,14 +11,14 @@ use Rattle.document.proofs.replaying.replay.Goals as goal
 pub loop-i-init : goal.loop-i-init
 loop-i-init g c =
     let a = g.G.Grammar.meaning c.args.meter.now.first.grammar in
-    let μ = document-measure a (g.H.Meter.scale c.args.meter.now.second.second) in
+    let μ = document_measure a (g.H.Meter.scale c.args.meter.now.second.second) in
     let made = c.new-document.ensures in
-    (begins a μ (record { document = c.new-document.result; screen = c.args.screen.now; buffer = c.args.buffer.now }) (record { not_opened = ap usable-of made.tree ∙ c.new-tree.ensures.usable; no_due = made.due }), refl)
+    (begins a μ (record { document = c.new-document.result; screen = c.args.screen.now; buffer = c.args.buffer.now }) (record { not_opened = ap usable_of made.tree ∙ c.new-tree.ensures.usable; no_due = made.due }), refl)
 
 pub loop-i-preserved : goal.loop-i-preserved
 loop-i-preserved g c =
     let a = g.G.Grammar.meaning c.args.meter.now.first.grammar in
-    let μ = document-measure a (g.H.Meter.scale c.args.meter.now.second.second) in
+    let μ = document_measure a (g.H.Meter.scale c.args.meter.now.second.second) in
     let i = c.loop-i.i in
     let calls = c.args.calls.now in
     let answers = c.loop-i.answers in
@@ -32,7 +32,7 @@ loop-i-preserved g c =
 pub returns : goal.returns
 returns g c =
     let a = g.G.Grammar.meaning c.args.meter.now.first.grammar in
-    let μ = document-measure a (g.H.Meter.scale c.args.meter.now.second.second) in
+    let μ = document_measure a (g.H.Meter.scale c.args.meter.now.second.second) in
     let done : c.loop-i.i ≡ c.min-count.result = omega arith in
     record {
       count = c.min-count.ensures;

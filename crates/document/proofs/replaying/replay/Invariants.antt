@@ -1,5 +1,5 @@
 use Rattle.std.proofs.Common.{◌≡◌, take, drop}
-use Rattle.editing.specs.Content.{document-measure}
+use Rattle.editing.specs.Content.{document_measure}
 use Rattle.document.proofs.Replays.{Going}
 use Rattle.document.proofs.replaying.replay.Given as goal
 
@@ -7,5 +7,5 @@ use Rattle.document.proofs.replaying.replay.Given as goal
 abbrev pub invariant-loop-i : goal.invariant-loop-i
 invariant-loop-i g l =
     let a = g.G.Grammar.meaning l.meter.first.grammar in
-    let μ = document-measure a (g.H.Meter.scale l.meter.second.second) in
+    let μ = document_measure a (g.H.Meter.scale l.meter.second.second) in
     Going a μ l.initial.screen l.initial.buffer (take l.i l.calls) (take l.i l.answers) (record { document = l.document; screen = l.screen; buffer = l.buffer }) × (drop l.i l.answers ≡ drop l.i l.initial.answers)

@@ -2,22 +2,22 @@ use Rattle.std.proofs.Common.{◌≡◌, ◌+◌, ◌-◌, length, drop, None, s
 use Rattle.std.proofs.lemmas.List.{length-drop}
 use Rattle.automaton.specs.Walk.{walk}
 use Rattle.model.specs.declared.change.Change.{Change}
-use Rattle.tree.specs.Public.{chunks-now}
+use Rattle.tree.specs.Public.{chunks_now}
 use Rattle.editing.specs.Content.{text_in}
-use Rattle.editing.proofs.Planning.{answered-ok}
-use Rattle.editing.proofs.Applying.{forward, inside, few_bytes, text-after, text-long, applied, end-told}
+use Rattle.editing.proofs.Planning.{answered_ok}
+use Rattle.editing.proofs.Applying.{forward, inside, few_bytes, text_after, text_long, applied, end_told}
 use Rattle.editing.proofs.apply.apply_edit.Goals as goal
 
 pub replace_run-requires : goal.replace_run-requires
 replace_run-requires g c =
     let told = c.in_ok-run.ensures in
-    let ok = answered-ok _ _ _ (sym told.is) in
+    let ok = answered_ok _ _ _ (sym told.is) in
     record { allowed = ok.0; is = sym ok.1; short = told.short }
 
 pub overflow_add-behind : goal.overflow_add-behind
 overflow_add-behind g c =
     let told = c.in_ok-run.ensures in
-    let ok = (answered-ok _ _ _ (sym told.is)).0 in
+    let ok = (answered_ok _ _ _ (sym told.is)).0 in
     let T = c.args.tree.now in
     let new = c.args.bytes.now in
     omega (arith, told.few, forward T c.args.from c.args.to new ok, inside T c.args.from c.args.to new ok, few_bytes T c.args.from c.args.to new ok)
@@ -25,30 +25,30 @@ overflow_add-behind g c =
 pub overflow_cast-result-2 : goal.overflow_cast-result-2
 overflow_cast-result-2 g c =
     let told = c.in_ok-run.ensures in
-    let ok = (answered-ok _ _ _ (sym told.is)).0 in
+    let ok = (answered_ok _ _ _ (sym told.is)).0 in
     let T = c.args.tree.now in
     let new = c.args.bytes.now in
     let made = c.replace_run.ensures in
     let after = c.replace_run.new.tree in
-    let long = text-long T c.args.from c.args.to new ok after made.chunks made.usable made.lent in
+    let long = text_long T c.args.from c.args.to new ok after made.chunks made.usable made.lent in
     omega (arith, told.few, forward T c.args.from c.args.to new ok, inside T c.args.from c.args.to new ok, few_bytes T c.args.from c.args.to new ok, long, length-drop (c.args.from + length new) (text_in after), c.apart_from.ensures.within)
 
 pub overflow_add-result : goal.overflow_add-result
 overflow_add-result g c =
     let told = c.in_ok-run.ensures in
-    let ok = (answered-ok _ _ _ (sym told.is)).0 in
+    let ok = (answered_ok _ _ _ (sym told.is)).0 in
     let T = c.args.tree.now in
     let new = c.args.bytes.now in
     let made = c.replace_run.ensures in
     let after = c.replace_run.new.tree in
-    let long = text-long T c.args.from c.args.to new ok after made.chunks made.usable made.lent in
+    let long = text_long T c.args.from c.args.to new ok after made.chunks made.usable made.lent in
     omega (arith, told.few, forward T c.args.from c.args.to new ok, inside T c.args.from c.args.to new ok, few_bytes T c.args.from c.args.to new ok, long, length-drop (c.args.from + length new) (text_in after), c.apart_from.ensures.within)
 
 pub returns : goal.returns
 returns g c =
     let a = g.G.Grammar.meaning c.args.meter.now.first.grammar in
     let told = c.in_ok-run.ensures in
-    let ok = (answered-ok _ _ _ (sym told.is)).0 in
+    let ok = (answered_ok _ _ _ (sym told.is)).0 in
     let T = c.args.tree.now in
     let from = c.args.from in
     let to = c.args.to in
@@ -59,8 +59,8 @@ returns g c =
       decides = sym ok;
       applied = applied T from to new ok after made.chunks made.usable made.lent c.apart_from.result c.apart_from.ensures.within;
       ends = λ kept.
-          let end = end-told a (text_in T) from to new (text_in after) c.state_before.result c.walk.result c.apart_from.result (forward T from to new ok) (inside T from to new ok)
-          (text-after T from to new ok after made.chunks made.usable made.lent) (c.state_before.ensures kept) (c.walk.ensures ∙ ap (λ s. walk a s new) (c.state_before-2.ensures kept)) (c.apart_from.ensures.meets (made.keeps kept)) in
+          let end = end_told a (text_in T) from to new (text_in after) c.state_before.result c.walk.result c.apart_from.result (forward T from to new ok) (inside T from to new ok)
+          (text_after T from to new ok after made.chunks made.usable made.lent) (c.state_before.ensures kept) (c.walk.ensures ∙ ap (λ s. walk a s new) (c.state_before-2.ensures kept)) (c.apart_from.ensures.meets (made.keeps kept)) in
           λ z. record { place = from; removed = to - from; inserted = length new; end = end z };
       keeps = made.keeps;
       same = tt;

@@ -2,10 +2,10 @@ use Rattle.std.proofs.Common.{◌≡◌, ◌-◌, true, cond, length, take, sym,
 use Rattle.std.proofs.lemmas.Bool.{cond-true}
 use Rattle.chunks.specs.Cut.{cut, replaced}
 use Rattle.model.specs.Edit.{middle}
-use Rattle.tree.specs.Public.{chunks-now}
+use Rattle.tree.specs.Public.{chunks_now}
 use Rattle.tree.specs.declared.lent.Lent.{Lent}
 use Rattle.editing.specs.Content.{text_in}
-use Rattle.editing.proofs.Applying.{covers, forward, can-replace, replaced-is}
+use Rattle.editing.proofs.Applying.{covers, forward, can_replace, replaced_is}
 use Rattle.editing.proofs.apply.replace_run.Goals as goal
 
 pub fill_middle-length-requires : goal.fill_middle-length-requires
@@ -23,12 +23,12 @@ returns g c =
     let out = c.fill_middle-length.new.out in
     let same : n - 0 ≡ n = omega arith in
     let is : take (n - 0) out ≡ middle (text_in T) run c.args.from c.args.to new = ap (λ k. take k out) same ∙ c.fill_middle-length.ensures.is in
-    let can = can-replace T c.args.from c.args.to new c.requires.allowed run c.requires.is (take (n - 0) out) is in
+    let can = can_replace T c.args.from c.args.to new c.requires.allowed run c.requires.is (take (n - 0) out) is in
     let size = c.replace.ensures.size in
     record {
-      chunks = c.replace.ensures.chunks ∙ cond-true _ (replaced run.first run.last (cut (take (n - 0) out)) (chunks-now T)) (chunks-now T) (c.replace.ensures.answer ∙ can)
-          ∙ replaced-is T c.args.from c.args.to new c.requires.allowed run c.requires.is (take (n - 0) out) is;
+      chunks = c.replace.ensures.chunks ∙ cond-true _ (replaced run.first run.last (cut (take (n - 0) out)) (chunks_now T)) (chunks_now T) (c.replace.ensures.answer ∙ can)
+          ∙ replaced_is T c.args.from c.args.to new c.requires.allowed run c.requires.is (take (n - 0) out) is;
       usable = size.usable;
-      lent = λ z. record { slots = size.slot-count z; store = size.store-count z; readings = size.reading-count z };
+      lent = λ z. record { slots = size.slot_count z; store = size.store_count z; readings = size.reading_count z };
       keeps = c.replace.ensures.keeps;
     }

@@ -1,19 +1,19 @@
 use Rattle.std.proofs.Common.{◌≡◌, sym, subst, arith, rules}
-use Rattle.tree.specs.Public.{chunks-now}
-use Rattle.model.proofs.Runs.{Covers, covers-touched}
+use Rattle.tree.specs.Public.{chunks_now}
+use Rattle.model.proofs.Runs.{Covers, covers_touched}
 use Rattle.model.specs.Edit.{affected}
 use Rattle.editing.proofs.plan.affected.Goals as goal
 
 pub middle_length_of-bytes-requires : goal.middle_length_of-bytes-requires
 middle_length_of-bytes-requires g c =
-    let chunks = chunks-now c.args.tree.now in
-    let covers = subst (Covers chunks c.args.from c.args.to) (sym c.touched-run.ensures) (covers-touched chunks c.args.from c.args.to c.requires.forward c.requires.inside) in
+    let chunks = chunks_now c.args.tree.now in
+    let covers = subst (Covers chunks c.args.from c.args.to) (sym c.touched-run.ensures) (covers_touched chunks c.args.from c.args.to c.requires.forward c.requires.inside) in
     record { before = covers.before; behind = covers.behind; few = c.requires.few }
 
 pub with_neighbour-requires : goal.with_neighbour-requires
 with_neighbour-requires g c =
-    let chunks = chunks-now c.args.tree.now in
-    let covers = subst (Covers chunks c.args.from c.args.to) (sym c.touched-run.ensures) (covers-touched chunks c.args.from c.args.to c.requires.forward c.requires.inside) in
+    let chunks = chunks_now c.args.tree.now in
+    let covers = subst (Covers chunks c.args.from c.args.to) (sym c.touched-run.ensures) (covers_touched chunks c.args.from c.args.to c.requires.forward c.requires.inside) in
     record { is = covers.is; ordered = covers.ordered; known = covers.known; short = c.requires.short }
 
 pub returns-then-bytes-lt-ENOUGH : goal.returns-then-bytes-lt-ENOUGH

@@ -1,7 +1,7 @@
 use Rattle.std.proofs.Common.{◌≡◌, length, None, sym}
 use Rattle.editing.specs.Content.{text_in, model_in}
-use Rattle.editing.proofs.Planning.{answered-ok}
-use Rattle.editing.proofs.Showing.{range-passed, coloured-front}
+use Rattle.editing.proofs.Planning.{answered_ok}
+use Rattle.editing.proofs.Showing.{range_passed, coloured_front}
 use Rattle.editing.proofs.screen.copy_colours.Goals as goal
 
 pub returns : goal.returns
@@ -10,10 +10,10 @@ returns g c =
     let T = c.args.tree.now in
     let out = c.args.out.now in
     let told = c.in_ok-copy_text.ensures in
-    let ok = answered-ok _ tt _ (sym told.answer) in
-    let range = range-passed (model_in T None) c.args.from c.args.to (length out) ok.0 in
+    let ok = answered_ok _ tt _ (sym told.answer) in
+    let range = range_passed (model_in T None) c.args.from c.args.to (length out) ok.0 in
     record {
       answer = told.answer;
-      written = λ kept. coloured-front a (text_in T) out c.copy_text.new.out c.colour.new.cells c.args.from c.args.to c.state_before-state.result range.0 range.1 (c.state_before-state.ensures kept) told.written c.colour.ensures.coloured;
+      written = λ kept. coloured_front a (text_in T) out c.copy_text.new.out c.colour.new.cells c.args.from c.args.to c.state_before-state.result range.0 range.1 (c.state_before-state.ensures kept) told.written c.colour.ensures.coloured;
       same = tt;
     }

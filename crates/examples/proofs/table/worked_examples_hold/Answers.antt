@@ -1,23 +1,23 @@
 use Rattle.std.proofs.Common.{refl}
 use Rattle.chunks.specs.Cut.{cut, share}
-use Rattle.model.specs.Edit.{touched, affected, edited-chunks}
-use Rattle.model.specs.End.{edit-end}
+use Rattle.model.specs.Edit.{touched, affected, edited_chunks}
+use Rattle.model.specs.End.{edit_end}
 use Rattle.examples.proofs.table.worked_examples_hold.Goals as goal
 
 -- Each example computes.
 pub returns : goal.returns
-unfolding cut share touched affected edited-chunks edit-end
+unfolding cut share touched affected edited_chunks edit_end
 returns c = record {
-  words-and-numbers = refl;
-  comment-ends-with-line = refl;
-  escaped-quote-ends-nothing = refl;
-  region-between-borders = refl;
-  region-states = refl;
-  edit-ends-behind-line = refl;
-  paint-moves-the-tail = refl;
-  quote-recolours-to-the-end = refl;
-  one-chunk-of-64 = refl;
-  two-chunks-of-65 = refl;
-  few-bytes-take-a-neighbour = refl;
-  enough-bytes-stay-alone = refl;
+  words_and_numbers = refl;
+  comment_ends_with_line = refl;
+  escaped_quote_ends_nothing = refl;
+  region_between_borders = refl;
+  region_states = refl;
+  edit_ends_behind_line = refl;
+  paint_moves_the_tail = refl;
+  quote_recolours_to_the_end = refl;
+  one_chunk_of_64 = refl;
+  two_chunks_of_65 = refl;
+  few_bytes_take_a_neighbour = refl;
+  enough_bytes_stay_alone = refl;
 }

@@ -1,15 +1,15 @@
 use Rattle.std.proofs.Common.{◌≡◌, ◌+◌, ◌*◌, ◌/◌, refl, ap, arith}
 use Rattle.chunks.specs.Cut.{begin}
-use Rattle.chunks.proofs.Cut.{begin-within}
+use Rattle.chunks.proofs.Cut.{begin_within}
 use Rattle.exchange.proofs.build.begin.Goals as goal
 
 pub overflow_mul-result : goal.overflow_mul-result
 unfolding begin
-overflow_mul-result c = omega (arith, begin-within c.args.bytes c.args.count c.args.k c.requires.0 c.requires.1)
+overflow_mul-result c = omega (arith, begin_within c.args.bytes c.args.count c.args.k c.requires.0 c.requires.1)
 
 pub overflow_add-result : goal.overflow_add-result
 unfolding begin
-overflow_add-result c = omega (arith, begin-within c.args.bytes c.args.count c.args.k c.requires.0 c.requires.1)
+overflow_add-result c = omega (arith, begin_within c.args.bytes c.args.count c.args.k c.requires.0 c.requires.1)
 
 pub returns : goal.returns
 unfolding begin

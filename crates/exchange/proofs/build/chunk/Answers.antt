@@ -1,6 +1,6 @@
 use Rattle.std.proofs.Common.{◌≡◌, suc, ◌+◌, ◌-◌, ◌<◌, ◌≤◌, length, take, drop, sym, ap, ◌∙◌, add-one, arith, rules}
 use Rattle.chunks.specs.Cut.{begin, share}
-use Rattle.chunks.proofs.Cut.{begin-more, chunk-within}
+use Rattle.chunks.proofs.Cut.{begin_more, chunk_within}
 use Rattle.exchange.proofs.build.chunk.Goals as goal
 
 pub slice_bounds-result-count : goal.slice_bounds-result-count
@@ -8,15 +8,15 @@ slice_bounds-result-count c =
     let j = length c.args.bytes.now in
     let q = c.args.count in
     let k = c.args.k in
-    omega (arith, begin-more j q k, ap (begin j q) (add-one k))
+    omega (arith, begin_more j q k, ap (begin j q) (add-one k))
 
 pub slice_bounds-result-start : goal.slice_bounds-result-start
 slice_bounds-result-start c =
     let j = length c.args.bytes.now in
     let q = c.args.count in
     let k = c.args.k in
-    let some = chunk-within c.args.bytes.now q (omega arith) k c.requires in
-    let more = begin-more j q k in
+    let some = chunk_within c.args.bytes.now q (omega arith) k c.requires in
+    let more = begin_more j q k in
     let next = ap (begin j q) (add-one k) in
     let low : c.begin-from.result ≤ c.begin-to.result = omega arith in
     let high : c.begin-to.result ≤ length c.args.bytes.now = omega arith in
@@ -27,8 +27,8 @@ slice_bounds-result-end c =
     let j = length c.args.bytes.now in
     let q = c.args.count in
     let k = c.args.k in
-    let some = chunk-within c.args.bytes.now q (omega arith) k c.requires in
-    let more = begin-more j q k in
+    let some = chunk_within c.args.bytes.now q (omega arith) k c.requires in
+    let more = begin_more j q k in
     let next = ap (begin j q) (add-one k) in
     let low : c.begin-from.result ≤ c.begin-to.result = omega arith in
     let high : c.begin-to.result ≤ length c.args.bytes.now = omega arith in
@@ -39,5 +39,5 @@ returns c =
     let j = length c.args.bytes.now in
     let q = c.args.count in
     let k = c.args.k in
-    let long : c.begin-to.result - c.begin-from.result ≡ share j q k = omega (arith, begin-more j q k, ap (begin j q) (add-one k)) in
+    let long : c.begin-to.result - c.begin-from.result ≡ share j q k = omega (arith, begin_more j q k, ap (begin j q) (add-one k)) in
     ap (λ n. take n (drop c.begin-from.result c.args.bytes.now)) long ∙ ap (λ n. take (share j q k) (drop n c.args.bytes.now)) c.begin-from.ensures

@@ -1,7 +1,7 @@
 use Rattle.std.proofs.Common.{◌≡◌, ℕ, ◌<◌, Option, sym, refl, ap, ◌∙◌, subst, arith}
 use Rattle.chunks.proofs.Footprint.{first_below}
 use Rattle.slots.specs.Free.{Stored, Stack}
-use Rattle.slots.proofs.Elsewhere.{elsewhere-stack, roomy-elsewhere}
+use Rattle.slots.proofs.Elsewhere.{elsewhere_stack, roomy_elsewhere}
 use Rattle.slots.proofs.Stacking.{stored}
 use Rattle.exchange.proofs.store.store_chunk.Goals as goal
 
@@ -13,7 +13,7 @@ write-requires g c =
     let first = took.first i _ idle in
     let u = took.usable in
     let known = first_below c.args.memory.now.usable i _ idle.once in
-    (roomy-elsewhere _ _ (λ j. 0) (elsewhere-stack _ _ (λ j. 0) took.slots took.store took.readings took.usable) idle.roomy, (omega arith, c.requires.1))
+    (roomy_elsewhere _ _ (λ j. 0) (elsewhere_stack _ _ (λ j. 0) took.slots took.store took.readings took.usable) idle.roomy, (omega arith, c.requires.1))
 
 pub returns : goal.returns
 returns g c i is idle =

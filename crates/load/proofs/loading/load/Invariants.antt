@@ -1,14 +1,14 @@
 use Rattle.std.proofs.Common.{◌≡◌}
-use Rattle.measure.specs.Blank.{blank-measure}
-use Rattle.measure.specs.Pair.{pair-measure}
-use Rattle.measure.specs.Place.{place-measure}
-use Rattle.measure.specs.Walk.{walk-measure}
-use Rattle.tree.specs.Public.{chunks-now, Kept-by}
-use Rattle.load.proofs.Piecewise.{So-far}
+use Rattle.measure.specs.Blank.{blank_measure}
+use Rattle.measure.specs.Pair.{pair_measure}
+use Rattle.measure.specs.Place.{place_measure}
+use Rattle.measure.specs.Walk.{walk_measure}
+use Rattle.tree.specs.Public.{chunks_now, KeptBy}
+use Rattle.load.proofs.Piecewise.{SoFar}
 use Rattle.load.proofs.loading.load.Given as goal
 
 abbrev pub invariant-loop-k : goal.invariant-loop-k
 invariant-loop-k g l =
-    So-far l.text l.usable l.k (chunks-now l.tree)
+    SoFar l.text l.usable l.k (chunks_now l.tree)
     × (l.tree.memory.usable ≡ l.usable)
-    × Kept-by l.tree (pair-measure (walk-measure (g.G.Grammar.meaning l.grammar)) (pair-measure place-measure blank-measure))
+    × KeptBy l.tree (pair_measure (walk_measure (g.G.Grammar.meaning l.grammar)) (pair_measure place_measure blank_measure))

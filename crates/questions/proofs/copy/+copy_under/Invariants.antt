@@ -1,6 +1,6 @@
-use Rattle.slots.specs.View.{height-at}
+use Rattle.slots.specs.View.{height_at}
 use Rattle.questions.proofs.copy.+copy_under.Given as goal
 
 -- Each step goes down.
 abbrev pub decreases-copy_under : goal.decreases-copy_under
-decreases-copy_under g l = height-at l.memory.now l.link
+decreases-copy_under g l = height_at l.memory.now l.link

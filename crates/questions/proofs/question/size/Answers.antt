@@ -2,28 +2,28 @@ use Rattle.std.proofs.Common.{sym, ap, ◌∙◌, arith}
 use Rattle.slots.specs.declared.slot.Extent.{Extent}
 use Rattle.std.proofs.lemmas.List.{length-map}
 use Rattle.chunks.specs.Tree.{slots}
-use Rattle.chunks.proofs.Footprint.{few-below}
+use Rattle.chunks.proofs.Footprint.{few_below}
 use Rattle.slots.specs.Claim.{nothing}
 use Rattle.slots.specs.View.{chunk_of}
 use Rattle.slots.specs.Sound.{tree_of}
 use Rattle.slots.proofs.Chunked.{chunked}
-use Rattle.slots.proofs.Holds.{balanced-held, low_held}
-use Rattle.slots.proofs.Reading.{whole-sound}
+use Rattle.slots.proofs.Holds.{balanced_held, low_held}
+use Rattle.slots.proofs.Reading.{whole_sound}
 use Rattle.questions.proofs.question.size.Goals as goal
 
 pub extent-requires : goal.extent-requires
-extent-requires g c = let whole = whole-sound _ _ c.requires in (whole.roomy, (_, (whole.root_is, whole.holds)))
+extent-requires g c = let whole = whole_sound _ _ c.requires in (whole.roomy, (_, (whole.root_is, whole.holds)))
 
 pub returns : goal.returns
 returns g c =
     let m = c.args.memory.now in
     let t = tree_of m c.args.link in
-    let whole = whole-sound m c.args.link c.requires in
+    let whole = whole_sound m c.args.link c.requires in
     record {
       is = c.extent.ensures t whole.root_is whole.holds;
       count = ap (λ (x : Extent). x.chunks) (c.extent.ensures t whole.root_is whole.holds) ∙ sym (length-map (slots t) (chunk_of m));
-      balanced = balanced-held nothing m t whole.holds;
+      balanced = balanced_held nothing m t whole.holds;
       low = low_held nothing m whole.roomy t whole.holds (λ j. omega (arith, whole.all j));
       chunked = chunked nothing m whole.roomy t whole.holds;
-      few = omega (arith, length-map (slots t) (chunk_of m), few-below m.usable (slots t) (λ j. omega (arith, whole.all j)));
+      few = omega (arith, length-map (slots t) (chunk_of m), few_below m.usable (slots t) (λ j. omega (arith, whole.all j)));
     }

@@ -2,24 +2,24 @@ use Rattle.std.proofs.Common.{◌≡◌, ap, arith}
 use Rattle.std.proofs.lemmas.List.{length-map}
 use Rattle.chunks.specs.declared.spot.Spot.{Spot}
 use Rattle.chunks.specs.Tree.{slots}
-use Rattle.chunks.proofs.Footprint.{few-below}
-use Rattle.chunks.proofs.Spotting.{spot-few}
+use Rattle.chunks.proofs.Footprint.{few_below}
+use Rattle.chunks.proofs.Spotting.{spot_few}
 use Rattle.slots.specs.View.{chunk_of, chunks_of}
 use Rattle.slots.specs.Sound.{tree_of}
-use Rattle.slots.proofs.Reading.{whole-sound}
+use Rattle.slots.proofs.Reading.{whole_sound}
 use Rattle.slots.proofs.Replacing.{held_whole}
 use Rattle.questions.proofs.question.spot.Goals as goal
 
 pub spot_under-requires : goal.spot_under-requires
-spot_under-requires g c = (_, held_whole (whole-sound _ _ c.requires))
+spot_under-requires g c = (_, held_whole (whole_sound _ _ c.requires))
 
 pub returns : goal.returns
 returns g c =
     let m = c.args.memory.now in
     let t = tree_of m c.args.link in
-    let held = held_whole (whole-sound m c.args.link c.requires) in
+    let held = held_whole (whole_sound m c.args.link c.requires) in
     let is = c.spot_under.ensures t held in
     record {
       is = is;
-      few = omega (arith, ap (λ (s : Spot). s.chunk) is, spot-few (chunks_of m t) c.args.place, length-map (slots t) (chunk_of m), few-below m.usable (slots t) held.once, held.roomy.few);
+      few = omega (arith, ap (λ (s : Spot). s.chunk) is, spot_few (chunks_of m t) c.args.place, length-map (slots t) (chunk_of m), few_below m.usable (slots t) held.once, held.roomy.few);
     }

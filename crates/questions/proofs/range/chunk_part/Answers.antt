@@ -1,7 +1,7 @@
 use Rattle.std.proofs.Common.{◌≡◌, ◌*◌, min, drop, sym, ap, ◌∙◌, arith}
 use Rattle.std.specs.List.{between}
 use Rattle.slots.specs.View.{size_of}
-use Rattle.slots.proofs.Ranges.{between-clipped, between-from}
+use Rattle.slots.proofs.Ranges.{between_clipped, between_from}
 use Rattle.questions.proofs.range.chunk_part.Goals as goal
 
 pub returns : goal.returns
@@ -11,7 +11,7 @@ returns g c =
     let own = size_of m c.args.i in
     let end : c.min-end.result ≡ min c.args.to own = c.min-end.ensures ∙ ap (min c.args.to) c.chunk_length-own.ensures in
     let begin : c.min-begin.result ≡ min c.args.from (min c.args.to own) = c.min-begin.ensures ∙ ap (min c.args.from) end in
-    between-from (64 * c.args.i) c.min-begin.result c.min-end.result m.store.now
+    between_from (64 * c.args.i) c.min-begin.result c.min-end.result m.store.now
     ∙ ap (λ n. between n c.min-end.result rest) begin
     ∙ ap (λ n. between (min c.args.from (min c.args.to own)) n rest) end
-    ∙ sym (between-clipped c.args.from c.args.to own rest)
+    ∙ sym (between_clipped c.args.from c.args.to own rest)

@@ -1,6 +1,6 @@
 use Rattle.std.proofs.Common.{◌≡◌, length, drop, sym, ap, ◌∙◌, arith}
 use Rattle.std.proofs.lemmas.List.{take_at}
-use Rattle.automaton.proofs.Walk.{colours-length}
+use Rattle.automaton.proofs.Walk.{colours_length}
 use Rattle.automaton.specs.Walk.{colours}
 use Rattle.report.proofs.colours.colours_of.Goals as goal
 
@@ -12,4 +12,4 @@ returns g c =
     let lent = c.deref_mut.ensures in
     let after = c.colour.new.cells in
     let is : after ≡ colours a c.args.text.now = c.colour.ensures.coloured ∙ ap (colours a) (lent.value ∙ made.items) in
-    take_at after (drop (length after) cells.items) cells.len (ap length is ∙ colours-length a 0 c.args.text.now ∙ sym made.len) ∙ is
+    take_at after (drop (length after) cells.items) cells.len (ap length is ∙ colours_length a 0 c.args.text.now ∙ sym made.len) ∙ is

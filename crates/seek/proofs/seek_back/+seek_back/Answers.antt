@@ -2,14 +2,14 @@ use Rattle.std.proofs.Common.{◌≡◌, false, [], length, take, is_some, sym, 
 use Rattle.std.proofs.lemmas.List.{take_all}
 use Rattle.std.proofs.lemmas.Bool.{leb-true}
 use Rattle.chunks.specs.Tree.{Tree}
-use Rattle.chunks.proofs.Sides.{leaf-if-none}
-use Rattle.search.specs.Backwards.{forwards, back-stop}
+use Rattle.chunks.proofs.Sides.{leaf_if_none}
+use Rattle.search.specs.Backwards.{forwards, back_stop}
 use Rattle.slots.specs.Split.{Held}
 use Rattle.slots.specs.View.{text_of}
 use Rattle.slots.specs.declared.slot.Extent.{Extent}
-use Rattle.slots.proofs.Joining.{height-held}
+use Rattle.slots.proofs.Joining.{height_held}
 use Rattle.seek.proofs.Kept.{kept_top, opened}
-use Rattle.seek.proofs.Ascent.{Found-back, stopped-right, own-fits, stopped-inside, found_all, all-fits}
+use Rattle.seek.proofs.Ascent.{FoundBack, stopped_right, own_fits, stopped_inside, found_all, all_fits}
 use Rattle.seek.proofs.seek_back.+seek_back.Goals as goal
 
 -- With no byte before the place there is nothing to run through.
@@ -23,8 +23,8 @@ returns-in_default g t c =
     record {
       within = λ z held. omega (arith, ap (λ s. s.passed) c.nowhere.ensures);
       finds = λ z held keeps.
-          let none = leaf-if-none z (sym c.in_default.is ∙ held.root_is) in
-          c.nowhere.ensures ∙ ap (λ l. back-stop fore back c.args.state l c.args.at) (sym (ap (λ (u : Tree). take c.args.place (text_of m u)) none ∙ take_all c.args.place [] (omega arith)));
+          let none = leaf_if_none z (sym c.in_default.is ∙ held.root_is) in
+          c.nowhere.ensures ∙ ap (λ l. back_stop fore back c.args.state l c.args.at) (sym (ap (λ (u : Tree). take c.args.place (text_of m u)) none ∙ take_all c.args.place [] (omega arith)));
     }
 
 pub returns-then-place-eq0 : goal.returns-then-place-eq0
@@ -36,7 +36,7 @@ returns-then-place-eq0 g t c =
     let back = b.back c.args.search.now in
     record {
       within = λ z held. omega (arith, ap (λ s. s.passed) c.nowhere-then-place-eq0.ensures);
-      finds = λ z held keeps. c.nowhere-then-place-eq0.ensures ∙ ap (λ n. back-stop fore back c.args.state (take n (text_of m z)) c.args.at) (sym c.if-place-eq0.true);
+      finds = λ z held keeps. c.nowhere-then-place-eq0.ensures ∙ ap (λ n. back_stop fore back c.args.state (take n (text_of m z)) c.args.at) (sym c.if-place-eq0.true);
     }
 
 pub returns-in-Some-pass_back_under : goal.returns-in-Some-pass_back_under
@@ -56,7 +56,7 @@ returns-in-Some-pass_back_under g t c =
       finds = λ z held keeps.
           let before = c.in-Some-pass_back_under.before in
           let runs = c.in-Some-pass_back_under.ensures.passes (text_of m z) (kept_top m μ z c.in-Some.i (sym c.in-Some.is ∙ held.root_is) keeps) in
-          ap (λ n. record { passed = n; at = before; stopped = false }) (bytes z held) ∙ sym runs ∙ ap (λ l. back-stop fore back c.args.state l c.args.at) (sym (all z held));
+          ap (λ n. record { passed = n; at = before; stopped = false }) (bytes z held) ∙ sym runs ∙ ap (λ l. back_stop fore back c.args.state l c.args.at) (sym (all z held));
     }
 
 pub seek_back-first-requires : goal.seek_back-first-requires
@@ -64,32 +64,32 @@ seek_back-first-requires g t c κs within =
     let held = c.requires.1 in
     let m = c.args.memory.now in
     let o = opened m c.in-Some.i c.child-left.result c.child-right.result c.args.link c.child-left.ensures c.child-right.ensures c.in-Some.is c.requires.0 held in
-    let whole = height-held m held.roomy c.requires.0 c.args.link held.root_is held.holds in
+    let whole = height_held m held.roomy c.requires.0 c.args.link held.root_is held.holds in
     let measured = c.decreases in
-    (omega (arith, o.lower.0), (within.0, (within.1.0, (within.1.1.0, (within.1.1.1, (o.l, o.left-held))))))
+    (omega (arith, o.lower.0), (within.0, (within.1.0, (within.1.1.0, (within.1.1.1, (o.l, o.left_held))))))
 
 pub seek_back-rest-requires : goal.seek_back-rest-requires
 seek_back-rest-requires g t c κs within =
     let held = c.requires.1 in
     let m = c.args.memory.now in
     let o = opened m c.in-Some.i c.child-left.result c.child-right.result c.args.link c.child-left.ensures c.child-right.ensures c.in-Some.is c.requires.0 held in
-    let whole = height-held m held.roomy c.requires.0 c.args.link held.root_is held.holds in
+    let whole = height_held m held.roomy c.requires.0 c.args.link held.root_is held.holds in
     let measured = c.decreases in
-    (omega (arith, o.lower.1), (within.0, (within.1.0, (within.1.1.0, (within.1.1.1, (o.r, o.right-held))))))
+    (omega (arith, o.lower.1), (within.0, (within.1.0, (within.1.1.0, (within.1.1.1, (o.r, o.right_held))))))
 
 pub extent-before-requires : goal.extent-before-requires
 extent-before-requires g t c =
     let held = c.requires.1 in
     let m = c.args.memory.now in
     let o = opened m c.in-Some.i c.child-left.result c.child-right.result c.args.link c.child-left.ensures c.child-right.ensures c.in-Some.is c.requires.0 held in
-    (held.roomy, (o.l, (o.left-held.root_is, o.left-held.holds)))
+    (held.roomy, (o.l, (o.left_held.root_is, o.left_held.holds)))
 
 pub ahead_under-inner-requires : goal.ahead_under-inner-requires
 ahead_under-inner-requires g t c =
     let held = c.requires.1 in
     let m = c.args.memory.now in
     let o = opened m c.in-Some.i c.child-left.result c.child-right.result c.args.link c.child-left.ensures c.child-right.ensures c.in-Some.is c.requires.0 held in
-    (o.l, o.left-held)
+    (o.l, o.left_held)
 
 pub chunk-requires : goal.chunk-requires
 chunk-requires g t c =
@@ -114,7 +114,7 @@ returns-then-rest g t c =
     let fore = b.fore c.args.search.now in
     let back = b.back c.args.search.now in
     let right = c.seek_back-rest.ensures in
-    let found : (z : Tree) → Held m c.args.link z → Found-back m μ fore back c.args.state c.args.place c.args.at z c.seek_back-rest.result = λ z held. stopped-right m μ fore back c.args.state c.args.at c.args.place i c.child-left.result c.child-right.result c.args.link (opened m i c.child-left.result c.child-right.result c.args.link c.child-left.ensures c.child-right.ensures c.in-Some.is) c.extent-before.result.bytes c.chunk_length.result (λ z held. ap (λ (x : Extent). x.bytes) (c.extent-before.ensures z held.root_is held.holds)) c.chunk_length.ensures c.ahead_under-inner.result c.ahead_of_bytes-outer.result c.ahead_under-inner.ensures (c.ahead_of_bytes-outer.ensures ∙ ap (forwards fore c.ahead_under-inner.result) c.chunk.ensures) c.saturating_sub.result c.saturating_sub.ensures c.seek_back-rest.result (λ z held. record { within = right.within z held; finds = right.finds z held }) z held c.if-rest.true in
+    let found : (z : Tree) → Held m c.args.link z → FoundBack m μ fore back c.args.state c.args.place c.args.at z c.seek_back-rest.result = λ z held. stopped_right m μ fore back c.args.state c.args.at c.args.place i c.child-left.result c.child-right.result c.args.link (opened m i c.child-left.result c.child-right.result c.args.link c.child-left.ensures c.child-right.ensures c.in-Some.is) c.extent-before.result.bytes c.chunk_length.result (λ z held. ap (λ (x : Extent). x.bytes) (c.extent-before.ensures z held.root_is held.holds)) c.chunk_length.ensures c.ahead_under-inner.result c.ahead_of_bytes-outer.result c.ahead_under-inner.ensures (c.ahead_of_bytes-outer.ensures ∙ ap (forwards fore c.ahead_under-inner.result) c.chunk.ensures) c.saturating_sub.result c.saturating_sub.ensures c.seek_back-rest.result (λ z held. record { within = right.within z held; finds = right.finds z held }) z held c.if-rest.true in
     record { within = λ z held. (found z held).within; finds = λ z held. (found z held).finds }
 
 pub further-own-requires : goal.further-own-requires
@@ -126,7 +126,7 @@ further-own-requires g t c =
     let fore = b.fore c.args.search.now in
     let back = b.back c.args.search.now in
     let right = c.seek_back-rest.ensures in
-    own-fits m μ fore back c.args.state c.args.at c.args.place i c.child-left.result c.child-right.result c.args.link (opened m i c.child-left.result c.child-right.result c.args.link c.child-left.ensures c.child-right.ensures c.in-Some.is) c.extent-before.result.bytes c.chunk_length.result (λ z held. ap (λ (x : Extent). x.bytes) (c.extent-before.ensures z held.root_is held.holds)) c.chunk_length.ensures c.ahead_under-inner.result c.ahead_of_bytes-outer.result c.ahead_under-inner.ensures (c.ahead_of_bytes-outer.ensures ∙ ap (forwards fore c.ahead_under-inner.result) c.chunk.ensures) c.saturating_sub.result c.saturating_sub.ensures c.seek_back-rest.result (λ z held. record { within = right.within z held; finds = right.finds z held }) c.if-rest.false c.saturating_sub-2.result c.saturating_sub-2.ensures c.seek_own_back-inside.result c.seek_own_back-inside.ensures c.requires.0 c.requires.1
+    own_fits m μ fore back c.args.state c.args.at c.args.place i c.child-left.result c.child-right.result c.args.link (opened m i c.child-left.result c.child-right.result c.args.link c.child-left.ensures c.child-right.ensures c.in-Some.is) c.extent-before.result.bytes c.chunk_length.result (λ z held. ap (λ (x : Extent). x.bytes) (c.extent-before.ensures z held.root_is held.holds)) c.chunk_length.ensures c.ahead_under-inner.result c.ahead_of_bytes-outer.result c.ahead_under-inner.ensures (c.ahead_of_bytes-outer.ensures ∙ ap (forwards fore c.ahead_under-inner.result) c.chunk.ensures) c.saturating_sub.result c.saturating_sub.ensures c.seek_back-rest.result (λ z held. record { within = right.within z held; finds = right.finds z held }) c.if-rest.false c.saturating_sub-2.result c.saturating_sub-2.ensures c.seek_own_back-inside.result c.seek_own_back-inside.ensures c.requires.0 c.requires.1
 
 pub returns-then-own : goal.returns-then-own
 returns-then-own g t c =
@@ -137,7 +137,7 @@ returns-then-own g t c =
     let fore = b.fore c.args.search.now in
     let back = b.back c.args.search.now in
     let right = c.seek_back-rest.ensures in
-    let found = stopped-inside m μ fore back c.args.state c.args.at c.args.place i c.child-left.result c.child-right.result c.args.link (opened m i c.child-left.result c.child-right.result c.args.link c.child-left.ensures c.child-right.ensures c.in-Some.is) c.extent-before.result.bytes c.chunk_length.result (λ z held. ap (λ (x : Extent). x.bytes) (c.extent-before.ensures z held.root_is held.holds)) c.chunk_length.ensures c.ahead_under-inner.result c.ahead_of_bytes-outer.result c.ahead_under-inner.ensures (c.ahead_of_bytes-outer.ensures ∙ ap (forwards fore c.ahead_under-inner.result) c.chunk.ensures) c.saturating_sub.result c.saturating_sub.ensures c.seek_back-rest.result (λ z held. record { within = right.within z held; finds = right.finds z held }) c.if-rest.false c.saturating_sub-2.result c.saturating_sub-2.ensures c.seek_own_back-inside.result c.seek_own_back-inside.ensures c.further-own.result c.further-own.ensures c.if-own.true in
+    let found = stopped_inside m μ fore back c.args.state c.args.at c.args.place i c.child-left.result c.child-right.result c.args.link (opened m i c.child-left.result c.child-right.result c.args.link c.child-left.ensures c.child-right.ensures c.in-Some.is) c.extent-before.result.bytes c.chunk_length.result (λ z held. ap (λ (x : Extent). x.bytes) (c.extent-before.ensures z held.root_is held.holds)) c.chunk_length.ensures c.ahead_under-inner.result c.ahead_of_bytes-outer.result c.ahead_under-inner.ensures (c.ahead_of_bytes-outer.ensures ∙ ap (forwards fore c.ahead_under-inner.result) c.chunk.ensures) c.saturating_sub.result c.saturating_sub.ensures c.seek_back-rest.result (λ z held. record { within = right.within z held; finds = right.finds z held }) c.if-rest.false c.saturating_sub-2.result c.saturating_sub-2.ensures c.seek_own_back-inside.result c.seek_own_back-inside.ensures c.further-own.result c.further-own.ensures c.if-own.true in
     record { within = λ z held. (found z held).within; finds = λ z held. (found z held).finds }
 
 pub further-requires : goal.further-requires
@@ -150,7 +150,7 @@ further-requires g t c =
     let back = b.back c.args.search.now in
     let right = c.seek_back-rest.ensures in
     let left = c.seek_back-first.ensures in
-    all-fits m μ fore back c.args.state c.args.at c.args.place i c.child-left.result c.child-right.result c.args.link (opened m i c.child-left.result c.child-right.result c.args.link c.child-left.ensures c.child-right.ensures c.in-Some.is) c.extent-before.result.bytes c.chunk_length.result (λ z held. ap (λ (x : Extent). x.bytes) (c.extent-before.ensures z held.root_is held.holds)) c.chunk_length.ensures c.ahead_under-inner.result c.ahead_of_bytes-outer.result c.ahead_under-inner.ensures (c.ahead_of_bytes-outer.ensures ∙ ap (forwards fore c.ahead_under-inner.result) c.chunk.ensures) c.saturating_sub.result c.saturating_sub.ensures c.seek_back-rest.result (λ z held. record { within = right.within z held; finds = right.finds z held }) c.if-rest.false c.saturating_sub-2.result c.saturating_sub-2.ensures c.seek_own_back-inside.result c.seek_own_back-inside.ensures c.further-own.result c.further-own.ensures c.if-own.false c.seek_back-first.result (λ z held. record { within = left.within z held; finds = left.finds z held }) c.requires.0 c.requires.1
+    all_fits m μ fore back c.args.state c.args.at c.args.place i c.child-left.result c.child-right.result c.args.link (opened m i c.child-left.result c.child-right.result c.args.link c.child-left.ensures c.child-right.ensures c.in-Some.is) c.extent-before.result.bytes c.chunk_length.result (λ z held. ap (λ (x : Extent). x.bytes) (c.extent-before.ensures z held.root_is held.holds)) c.chunk_length.ensures c.ahead_under-inner.result c.ahead_of_bytes-outer.result c.ahead_under-inner.ensures (c.ahead_of_bytes-outer.ensures ∙ ap (forwards fore c.ahead_under-inner.result) c.chunk.ensures) c.saturating_sub.result c.saturating_sub.ensures c.seek_back-rest.result (λ z held. record { within = right.within z held; finds = right.finds z held }) c.if-rest.false c.saturating_sub-2.result c.saturating_sub-2.ensures c.seek_own_back-inside.result c.seek_own_back-inside.ensures c.further-own.result c.further-own.ensures c.if-own.false c.seek_back-first.result (λ z held. record { within = left.within z held; finds = left.finds z held }) c.requires.0 c.requires.1
 
 pub returns : goal.returns
 returns g t c =

@@ -1,6 +1,6 @@
-use Rattle.slots.specs.View.{height-at}
+use Rattle.slots.specs.View.{height_at}
 use Rattle.seek.proofs.seek_back.+seek_back.Given as goal
 
 -- Each step goes down.
 abbrev pub decreases-seek_back : goal.decreases-seek_back
-decreases-seek_back g l = height-at l.memory.now l.link
+decreases-seek_back g l = height_at l.memory.now l.link

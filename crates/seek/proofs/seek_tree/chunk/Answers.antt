@@ -5,7 +5,7 @@ use Rattle.seek.proofs.seek_tree.chunk.Goals as goal
 pub slice_bounds-result-end : goal.slice_bounds-result-end
 slice_bounds-result-end g c =
     let m = c.args.memory.now in
-    let room = c.requires.0.store-each in
+    let room = c.requires.0.store_each in
     let fits : 64 * c.args.i + c.chunk_length.result ≤ length m.store.now = omega (arith, c.requires.1.0, c.requires.1.1, c.chunk_length.ensures) in
     search rules
 

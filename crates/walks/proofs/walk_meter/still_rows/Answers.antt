@@ -2,7 +2,7 @@ use Rattle.std.proofs.Common.{ltb, replicate, ◌∙◌, arith}
 use Rattle.std.proofs.lemmas.List.{length-replicate, get_or-replicate}
 use Rattle.std.proofs.lemmas.Bool.{cond-true, lt-ltb}
 use Rattle.measure.specs.Walk.{still}
-use Rattle.measure.proofs.Rows.{filled_none, filled_more, filled-all}
+use Rattle.measure.proofs.Rows.{filled_none, filled_more, filled_all}
 use Rattle.walks.proofs.walk_meter.still_rows.Goals as goal
 
 pub loop-s-init : goal.loop-s-init
@@ -16,4 +16,4 @@ loop-s-preserved c = filled_more still (λ s. still 0) c.loop-s.s c.loop-s.entri
 pub returns : goal.returns
 returns c =
     let n = c.loop-s.s in
-    filled-all still (λ s. still 0) n c.loop-s.entries still c.loop-s.invariant (λ s h. cond-true (ltb s n) (still s) (still 0) (lt-ltb s n (omega arith)))
+    filled_all still (λ s. still 0) n c.loop-s.entries still c.loop-s.invariant (λ s h. cond-true (ltb s n) (still s) (still 0) (lt-ltb s n (omega arith)))

@@ -1,9 +1,9 @@
 use Rattle.std.proofs.Common.{◌≡◌, true, cond, [], sym, refl, ap, ◌∙◌}
 use Rattle.std.proofs.lemmas.Bool.{cond-true}
 use Rattle.tree.specs.declared.lent.Lent.{Lent}
-use Rattle.tree.specs.Public.{chunks-now, usable-of, lent-to, preparable}
+use Rattle.tree.specs.Public.{chunks_now, usable_of, lent_to, preparable}
 use Rattle.model.specs.Calls.{answered}
-use Rattle.document.proofs.Opening.{can-prepare, still-fits}
+use Rattle.document.proofs.Opening.{can_prepare, still_fits}
 use Rattle.document.proofs.document.Document.try_open.Goals as goal
 
 pub invariant_of-self : goal.invariant_of-self
@@ -11,18 +11,18 @@ invariant_of-self g c =
     let self = c.args.self.now in
     let T = self.tree.now in
     let passes = sym c.in_default.ensures in
-    let done : c.prepare.result ≡ true = c.prepare.ensures.answer ∙ ap (λ (l : Lent). preparable T l.slots) c.lent-slots.ensures ∙ can-prepare T self.due c.args.states passes in
-    let none = c.prepare.ensures.chunks ∙ cond-true c.prepare.result [] (chunks-now T) done in
-    record { fitting = still-fits T self.due c.args.states passes c.prepare.new.self none self.fitting }
+    let done : c.prepare.result ≡ true = c.prepare.ensures.answer ∙ ap (λ (l : Lent). preparable T l.slots) c.lent-slots.ensures ∙ can_prepare T self.due c.args.states passes in
+    let none = c.prepare.ensures.chunks ∙ cond-true c.prepare.result [] (chunks_now T) done in
+    record { fitting = still_fits T self.due c.args.states passes c.prepare.new.self none self.fitting }
 
 pub returns : goal.returns
 returns g c =
     let self = c.args.self.now in
     let T = self.tree.now in
     let passes = sym c.in_default.ensures in
-    let done : c.prepare.result ≡ true = c.prepare.ensures.answer ∙ ap (λ (l : Lent). preparable T l.slots) c.lent-slots.ensures ∙ can-prepare T self.due c.args.states passes in
-    let none = c.prepare.ensures.chunks ∙ cond-true c.prepare.result [] (chunks-now T) done in
-    let all : usable-of c.prepare.new.self ≡ (lent-to T).slots = c.prepare.ensures.usable ∙ cond-true c.prepare.result c.lent-slots.result.slots (usable-of T) done ∙ ap (λ (l : Lent). l.slots) c.lent-slots.ensures in
+    let done : c.prepare.result ≡ true = c.prepare.ensures.answer ∙ ap (λ (l : Lent). preparable T l.slots) c.lent-slots.ensures ∙ can_prepare T self.due c.args.states passes in
+    let none = c.prepare.ensures.chunks ∙ cond-true c.prepare.result [] (chunks_now T) done in
+    let all : usable_of c.prepare.new.self ≡ (lent_to T).slots = c.prepare.ensures.usable ∙ cond-true c.prepare.result c.lent-slots.result.slots (usable_of T) done ∙ ap (λ (l : Lent). l.slots) c.lent-slots.ensures in
     let lent = c.prepare.ensures.lent in
     record {
       answer = sym (ap (λ o. answered o tt) passes);

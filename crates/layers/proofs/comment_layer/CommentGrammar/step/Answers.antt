@@ -1,5 +1,5 @@
 use native.Mathlib.Omega.{arith}
-use Rattle.automaton.proofs.Comment.{below-within}
+use Rattle.automaton.proofs.Comment.{below_within}
 use Rattle.layers.proofs.comment_layer.CommentGrammar.step.Goals as goal
 
 -- Both parts are counts of at most 64 or states below one.
@@ -7,5 +7,5 @@ pub overflow_add-result : goal.overflow_add-result
 overflow_add-result g c =
     let below = g.G.Grammar.meaning c.args.self.now.below in
     let lawful = g.G.Grammar.lawful c.args.self.now.below in
-    let within = below-within below c.args.state c.in-Below.s c.in-Below.ensures in
-    omega (arith, lawful.few-states, lawful.step-below c.in-Below.s c.args.byte within)
+    let within = below_within below c.args.state c.in-Below.s c.in-Below.ensures in
+    omega (arith, lawful.few_states, lawful.step_below c.in-Below.s c.args.byte within)

@@ -1,7 +1,7 @@
 use Rattle.std.proofs.Common.{◌≡◌, ℕ, ◌+◌, ◌-◌, List, Some, sym, ap, ◌∙◌, arith}
-use Rattle.measure.specs.Place.{line-ends, units}
+use Rattle.measure.specs.Place.{line_ends, units}
 use Rattle.locate.specs.InLine.{lined}
-use Rattle.locate.proofs.Columns.{base, base-first, base-later, passes-lines, passes-units, told}
+use Rattle.locate.proofs.Columns.{base, base_first, base_later, passes_lines, passes_units, told}
 use Rattle.locate.proofs.in_line.InLineForward.pass.Goals as goal
 use Rattle.locate.proofs.in_line.InLineForward.pass.Goals.{then-extent-eq0, else-extent-eq0}
 
@@ -11,10 +11,10 @@ returns-then-extent-at c text e =
     let x = told text c.in-Within.extent (sym e ∙ c.in-Within.is) in
     let start : c.if-extent-eq0.start ≡ base at.units text =
     elim c.if-extent-eq0.branch [
-      | then-extent-eq0 w ↦ w.start-is ∙ sym (base-first at.units text (omega (arith, x.0, w.if-extent-eq0.true)))
-      | else-extent-eq0 w ↦ w.start-is ∙ sym (base-later at.units text (λ z. w.if-extent-eq0.false (x.0 ∙ z)))
+      | then-extent-eq0 w ↦ w.start-is ∙ sym (base_first at.units text (omega (arith, x.0, w.if-extent-eq0.true)))
+      | else-extent-eq0 w ↦ w.start-is ∙ sym (base_later at.units text (λ z. w.if-extent-eq0.false (x.0 ∙ z)))
     ] in
-    passes-lines c.args.self.now.column text at.lines at.units (omega (arith, x.0, c.if-extent-at.true))
+    passes_lines c.args.self.now.column text at.lines at.units (omega (arith, x.0, c.if-extent-at.true))
     ∙ ap (λ n. Some (lined (at.lines - n) (base at.units text))) (sym x.0)
     ∙ ap (λ n. Some (lined (at.lines - c.in-Within.extent.lines) n)) (sym start)
 
@@ -24,9 +24,9 @@ returns c text e =
     let x = told text c.in-Within.extent (sym e ∙ c.in-Within.is) in
     let start : c.if-extent-eq0.start ≡ base at.units text =
     elim c.if-extent-eq0.branch [
-      | then-extent-eq0 w ↦ w.start-is ∙ sym (base-first at.units text (omega (arith, x.0, w.if-extent-eq0.true)))
-      | else-extent-eq0 w ↦ w.start-is ∙ sym (base-later at.units text (λ z. w.if-extent-eq0.false (x.0 ∙ z)))
+      | then-extent-eq0 w ↦ w.start-is ∙ sym (base_first at.units text (omega (arith, x.0, w.if-extent-eq0.true)))
+      | else-extent-eq0 w ↦ w.start-is ∙ sym (base_later at.units text (λ z. w.if-extent-eq0.false (x.0 ∙ z)))
     ] in
     let same : base at.units text + units text ≡ c.if-extent-eq0.start + c.in-Within.extent.units = omega (arith, start, x.1) in
-    passes-units c.args.self.now.column text at.lines at.units (omega (arith, x.0, c.if-extent-at.false, c.if-extent-at-2.false)) (omega (arith, same, c.if-units-self.false))
+    passes_units c.args.self.now.column text at.lines at.units (omega (arith, x.0, c.if-extent-at.false, c.if-extent-at-2.false)) (omega (arith, same, c.if-units-self.false))
     ∙ ap (λ n. Some (lined 0 n)) same

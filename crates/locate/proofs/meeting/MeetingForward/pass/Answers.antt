@@ -1,8 +1,8 @@
 use Rattle.std.proofs.Common.{◌≡◌, get_or, Some, sym, ap, ◌∙◌}
 use Rattle.automaton.specs.Walk.{walk}
-use Rattle.locate.specs.Meeting.{two-states}
+use Rattle.locate.specs.Meeting.{two_states}
 use Rattle.measure.specs.Walk.{still}
-use Rattle.locate.proofs.Together.{stays-apart, end-told}
+use Rattle.locate.proofs.Together.{stays_apart, end_told}
 use Rattle.locate.proofs.meeting.MeetingForward.pass.Goals as goal
 
 pub returns : goal.returns
@@ -12,8 +12,8 @@ returns g c text e =
     let p = c.in-Within.passage in
     let at = c.args.at in
     let is = sym e ∙ c.in-Within.is in
-    let old = end-told a (g.G.Grammar.lawful grammar) text p is at.old c.if-at-ge64.false in
-    let new = end-told a (g.G.Grammar.lawful grammar) text p is at.new c.if-at-ge64-2.false in
-    stays-apart a at.old at.new text (λ z. c.if-old-new.false (old ∙ z ∙ sym new))
-    ∙ ap (λ s. Some (two-states s (walk a at.new text))) (sym old)
-    ∙ ap (λ s. Some (two-states (get_or p.entries at.old (still 0)).end s)) (sym new)
+    let old = end_told a (g.G.Grammar.lawful grammar) text p is at.old c.if-at-ge64.false in
+    let new = end_told a (g.G.Grammar.lawful grammar) text p is at.new c.if-at-ge64-2.false in
+    stays_apart a at.old at.new text (λ z. c.if-old-new.false (old ∙ z ∙ sym new))
+    ∙ ap (λ s. Some (two_states s (walk a at.new text))) (sym old)
+    ∙ ap (λ s. Some (two_states (get_or p.entries at.old (still 0)).end s)) (sym new)

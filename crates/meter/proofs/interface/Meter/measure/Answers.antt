@@ -1,7 +1,7 @@
 use Rattle.std.proofs.Common.{sym, ap, ◌∙◌}
 use Rattle.std.proofs.lemmas.List.{take_all}
 use Rattle.measure.specs.Measure.{reading}
-use Rattle.measure.proofs.Measure.{reading-more}
+use Rattle.measure.proofs.Measure.{reading_more}
 use Rattle.meter.proofs.interface.Meter.measure.Goals as goal
 
 pub loop-byte-preserved : goal.loop-byte-preserved
@@ -10,7 +10,7 @@ loop-byte-preserved g c =
     let lawful = g.Self.Meter.lawful c.args.self.now in
     let bytes = c.args.bytes.now in
     let i = c.loop-byte.byte-index in
-    let more = reading-more μ lawful bytes i c.loop-byte-test.true in
+    let more = reading_more μ lawful bytes i c.loop-byte-test.true in
     let byte = c.single.ensures in
     let joined = c.join-sum.ensures in
     let so_far = c.loop-byte.invariant in

@@ -9,9 +9,9 @@ returns g c =
     record {
       answer = grind (arith, nat_tests);
       usable = made.usable;
-      lent = λ z. record { slots = made.slot-count z; store = ap length made.store z; readings = ap length made.readings z };
+      lent = λ z. record { slots = made.slot_count z; store = ap length made.store z; readings = ap length made.readings z };
       chunks = made.chunks;
-      free = λ _. made.all-free;
+      free = λ _. made.all_free;
       keeps = λ _ μ. made.keeps μ;
       store = made.store;
       readings = made.readings;

@@ -4,10 +4,10 @@ use Rattle.automaton.specs.Bracket.{role}
 use Rattle.automaton.specs.Walk.{walk}
 use Rattle.automaton.proofs.Walk.{walk_more}
 use Rattle.automaton.specs.declared.role.Role.TheVariants.{Plain, Opening, Closing}
-use Rattle.measure.specs.Unmatched.{opens, closes, unmatched-closings, unmatched-openings}
+use Rattle.measure.specs.Unmatched.{opens, closes, unmatched_closings, unmatched_openings}
 use Rattle.measure.specs.Walk.{entry}
-use Rattle.measure.proofs.Unmatched.{unmatched-few, closings-more, openings-more}
-use Rattle.measure.proofs.Walk.{same-entry}
+use Rattle.measure.proofs.Unmatched.{unmatched_few, closings_more, openings_more}
+use Rattle.measure.proofs.Walk.{same_entry}
 use Rattle.walks.proofs.walk_meter.Walk.walk_from.Goals as goal
 use Rattle.walks.proofs.walk_meter.Walk.walk_from.Goals.{in-Plain, in-Opening, in-Closing, in-Closing-2}
 
@@ -16,14 +16,14 @@ overflow_add-openings g c =
     let a = g.G.Grammar.meaning c.args.self.now.grammar in
     let bytes = c.args.bytes.now in
     let i = c.loop-byte.byte-index in
-    omega (arith, unmatched-few a c.args.state (take i bytes), length-take-le i bytes (omega arith))
+    omega (arith, unmatched_few a c.args.state (take i bytes), length-take-le i bytes (omega arith))
 
 pub overflow_add-closings : goal.overflow_add-closings
 overflow_add-closings g c =
     let a = g.G.Grammar.meaning c.args.self.now.grammar in
     let bytes = c.args.bytes.now in
     let i = c.loop-byte.byte-index in
-    omega (arith, unmatched-few a c.args.state (take i bytes), length-take-le i bytes (omega arith))
+    omega (arith, unmatched_few a c.args.state (take i bytes), length-take-le i bytes (omega arith))
 
 pub loop-byte-preserved : goal.loop-byte-preserved
 loop-byte-preserved g c =
@@ -48,8 +48,8 @@ loop-byte-preserved g c =
     let part = c.role.ensures in
     let next = c.step-now_in.ensures in
     let walked = walk_more a s bytes i c.loop-byte-test.true in
-    let more = closings-more a s bytes i c.loop-byte-test.true in
-    let more' = openings-more a s bytes i c.loop-byte-test.true in
+    let more = closings_more a s bytes i c.loop-byte-test.true in
+    let more' = openings_more a s bytes i c.loop-byte-test.true in
     (cc, cc counts.0, cc counts.1)
 
 pub returns : goal.returns
@@ -57,4 +57,4 @@ returns g c =
     let a = g.G.Grammar.meaning c.args.self.now.grammar in
     let s = c.args.state in
     let bytes = c.args.bytes.now in
-    same-entry c.loop-byte.invariant.0 c.loop-byte.invariant.1 c.loop-byte.invariant.2 ∙ ap (entry a s) (take_all c.loop-byte.byte-index bytes c.loop-byte-test.false)
+    same_entry c.loop-byte.invariant.0 c.loop-byte.invariant.1 c.loop-byte.invariant.2 ∙ ap (entry a s) (take_all c.loop-byte.byte-index bytes c.loop-byte-test.false)

@@ -1,13 +1,13 @@
-use Rattle.editing.specs.Content.{document-measure}
-use Rattle.document.proofs.Law.{log-goes-on}
+use Rattle.editing.specs.Content.{document_measure}
+use Rattle.document.proofs.Law.{log_goes_on}
 use Rattle.document.proofs.document.log.Document+Readings+X.perform.Goals as goal
 
 pub returns : goal.returns
 returns g c =
     let a = g.G.Grammar.meaning c.args.meter.now.first.grammar in
-    let μ = document-measure a (g.H.Meter.scale c.args.meter.now.second.second) in
+    let μ = document_measure a (g.H.Meter.scale c.args.meter.now.second.second) in
     record {
       obeys = c.carry_out.ensures.obeys;
       keeps = c.carry_out.ensures.keeps;
-      law = λ first log follows is. log-goes-on a μ first log _ _ follows is c.carry_out.ensures.obeys c.carry_out.ensures.keeps;
+      law = λ first log follows is. log_goes_on a μ first log _ _ follows is c.carry_out.ensures.obeys c.carry_out.ensures.keeps;
     }
