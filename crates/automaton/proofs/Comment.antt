@@ -1,9 +1,9 @@
 -- Comment is lawful over every lawful grammar.
-use Rattle.std.proofs.Common.{◌≡◌, ℕ, ◌*◌, ◌<◌, ltb, sym, subst, arith}
+use Rattle.std.proofs.Common.{◌≡◌, ℕ, ◌*◌, ◌<◌, ltb, arith}
 use Rattle.std.proofs.lemmas.Bool.{cond_both, ltb-true, ltb-false}
 use Rattle.std.proofs.lemmas.Bool.Decides.{nat_tests}
 use Rattle.automaton.specs.Automaton.{Automaton, Lawful}
-use Rattle.automaton.specs.Comment.{comment, comment_state, comment_step, comment_class, comment_open}
+use Rattle.automaton.specs.Comment.{comment, comment_state, comment_step, comment_class}
 use Rattle.automaton.specs.Layer.{fitted}
 use Rattle.automaton.specs.declared.layer_state.CommentState.{CommentState}
 use Rattle.automaton.specs.declared.layer_state.CommentState.TheVariants.{Below, Inside}

@@ -1,7 +1,7 @@
 -- What makes an automaton lawful, stated once for scene words and every layer.
-use Rattle.std.proofs.Common.{◌≡◌, ℕ, ◌<◌, ◌≤◌, Bool, cond, arith}
+use Rattle.std.proofs.Common.{◌≡◌, ℕ, ◌<◌, ◌≤◌, Bool, arith}
 use Rattle.std.proofs.lemmas.Bool.Decides.{nat_tests}
-use Rattle.automaton.specs.Automaton.{Automaton, Lawful, automaton}
+use Rattle.automaton.specs.Automaton.{Lawful, automaton}
 use Rattle.automaton.specs.Layer.{fitted}
 
 -- Answers that are right below n make a lawful automaton of n states.

@@ -1,8 +1,8 @@
 -- The laws of specs/Laws.antt.
-use Rattle.std.proofs.Common.{◌≡◌, ℕ, zero, suc, ◌+◌, ◌<◌, List, [], ◌∷◌, ◌++◌, length, get_or, take, sym, refl, ap, ◌∙◌, arith}
-use Rattle.std.proofs.lemmas.List.{ext_get_or, take_all, get_or_push, get_or_append_left, length-take-le}
-use Rattle.automaton.specs.Automaton.{Automaton, Lawful}
-use Rattle.automaton.specs.Walk.{walk, colours_from, state_before, colours}
+use Rattle.std.proofs.Common.{◌≡◌, ℕ, zero, suc, ◌<◌, List, [], ◌∷◌, length, get_or, take, sym, refl, ◌∙◌, arith}
+use Rattle.std.proofs.lemmas.List.{ext_get_or}
+use Rattle.automaton.specs.Automaton.{Automaton}
+use Rattle.automaton.specs.Walk.{walk, colours_from, colours}
 use Rattle.automaton.specs.Laws.{WalkTakesEachStep, Shows, ColoursAloneShow, WalkCanBeCut, WalkStaysBelow, PilesAreLawful}
 use Rattle.automaton.proofs.Walk.{walk_append, colours_append, colours_length, walk_more}
 use Rattle.automaton.proofs.Words.{words_lawful}

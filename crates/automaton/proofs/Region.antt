@@ -1,14 +1,13 @@
 -- Region is lawful over every two lawful grammars.
-use Rattle.std.proofs.Common.{◌≡◌, ℕ, ◌+◌, ◌-◌, ◌*◌, ◌/◌, ◌%◌, ◌<◌, ◌≤◌, eqb, ltb, mod-lt, div-lt_iff_lt-mul, le-mul_of_pos_right, arith}
+use Rattle.std.proofs.Common.{◌≡◌, ℕ, ◌+◌, ◌-◌, ◌*◌, ◌<◌, ◌≤◌, ltb, mod-lt, div-lt_iff_lt-mul, le-mul_of_pos_right, arith}
 use Rattle.std.proofs.lemmas.Nat.{mul-add-lt}
 use Rattle.std.proofs.lemmas.Bool.{cond_both, ltb-true, ltb-false}
 use Rattle.std.proofs.lemmas.Bool.Decides.{nat_tests}
 use Rattle.automaton.specs.Automaton.{Automaton, Lawful}
 use Rattle.automaton.specs.Region.{region, region_count, region_state, region_step, region_class}
-use Rattle.automaton.specs.Layer.{fitted}
 use Rattle.automaton.specs.declared.layer_state.RegionState.{RegionState}
 use Rattle.automaton.specs.declared.layer_state.RegionState.TheVariants.{Below, Inside}
-use Rattle.automaton.proofs.Lawful.{automaton_lawful, fitted_few, fitted_is}
+use Rattle.automaton.proofs.Lawful.{automaton_lawful, fitted_few}
 
 module _ (G H : Automaton) (lawful : Lawful G) (inner-lawful : Lawful H) where
   -- the states that the layer can be in

@@ -1,7 +1,7 @@
 -- The laws of a walk and of the colours: over `++`, and one byte more.
-use Rattle.std.proofs.Common.{◌≡◌, ℕ, suc, ◌+◌, ◌<◌, ◌≤◌, List, [], ◌∷◌, ◌++◌, length, get_or, take, drop, set, sym, refl, ap, ◌∙◌, arith}
-use Rattle.std.proofs.lemmas.List.{take_more, drop_more, set_at, append_assoc, get_or_at, get_or_append_left}
-use Rattle.automaton.specs.Automaton.{Automaton, Lawful}
+use Rattle.std.proofs.Common.{◌≡◌, ℕ, suc, ◌+◌, ◌<◌, List, [], ◌∷◌, ◌++◌, length, get_or, take, drop, set, sym, refl, ap, ◌∙◌}
+use Rattle.std.proofs.lemmas.List.{take_more, drop_more, set_at, append_assoc}
+use Rattle.automaton.specs.Automaton.{Automaton}
 use Rattle.automaton.specs.Walk.{walk, colours_from}
 
 module _ (a : Automaton) where

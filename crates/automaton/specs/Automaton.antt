@@ -1,6 +1,6 @@
 -- What a grammar means: a finite automaton over bytes that also colours what it reads.
 -- Every definition of the crates above speaks of this record and of its laws.
-use Rattle.std.specs.Prelude.{◌≡◌, ℕ, ◌<◌, ◌≤◌, Bool, true, false, cond, ◌&&◌, nat_lt}
+use Rattle.std.specs.Prelude.{◌≡◌, ℕ, ◌<◌, ◌≤◌, Bool, false, cond, ◌&&◌, nat_lt}
 
 -- The four answers of a grammar, as values. States, bytes and classes are numbers.
 pub record Automaton : Type 0 where

@@ -1,6 +1,6 @@
 -- Which bytes are brackets: the role of a byte read from a state.
 -- Everything that pairs brackets asks for the role and for nothing else.
-use Rattle.std.specs.Prelude.{◌≡◌, ℕ, Bool, cond, ◌==◌}
+use Rattle.std.specs.Prelude.{◌≡◌, ℕ, cond, ◌==◌}
 use Rattle.automaton.specs.Automaton.{Automaton}
 use Rattle.automaton.specs.Class.{mark}
 use Rattle.automaton.specs.declared.role.Role.{Role}

@@ -1,9 +1,8 @@
 -- How high a balanced tree can be: a tree of a height has at least so many slots.
-use Rattle.std.proofs.Common.{◌≡◌, ℕ, zero, suc, ◌+◌, ◌<◌, ◌≤◌, max, ◌∷◌, length, ap, subst, ⊎_elim, le_refl, arith, length-append}
-use native.Mathlib.Nat.{max_comm, max-eq_right}
+use Rattle.std.proofs.Common.{◌≡◌, ℕ, zero, suc, ◌+◌, ◌≤◌, max, ◌∷◌, length, ap, ⊎_elim, le_refl, arith, length-append}
 use native.Mathlib.Decide.{le_ind}
 use Rattle.std.proofs.lemmas.Bool.{cases_lt}
-use Rattle.chunks.specs.Tree.{Tree, leaf, node, slots, height, Level, Balanced, least}
+use Rattle.chunks.specs.Tree.{Tree, leaf, node, slots, height, Balanced, least}
 
 least_suc : (h : ℕ) → least h ≤ least (suc h)
 least_suc zero = omega arith

@@ -1,7 +1,7 @@
 -- The laws of counting slots.
-use Rattle.std.proofs.Common.{◌≡◌, ℕ, zero, suc, ◌+◌, ◌<◌, ◌≤◌, List, [], ◌∷◌, ◌++◌, length, sym, refl, ap, ◌∙◌, arith}
+use Rattle.std.proofs.Common.{◌≡◌, ℕ, zero, suc, ◌+◌, ◌<◌, ◌≤◌, List, [], ◌∷◌, ◌++◌, length, refl, ◌∙◌, arith}
 use Rattle.std.proofs.lemmas.Bool.Decides.{nat_tests}
-use Rattle.chunks.specs.Tree.{Tree, leaf, node, slots}
+use Rattle.chunks.specs.Tree.{Tree, node, slots}
 use Rattle.chunks.specs.Footprint.{one, count, uses, below}
 
 pub one_same : (i : ℕ) → one i i ≡ 1

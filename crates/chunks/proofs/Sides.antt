@@ -1,6 +1,5 @@
 -- The laws of the two sides.
-use Rattle.std.proofs.Common.{◌≡◌, ℕ, suc, ◌+◌, max, List, ◌∷◌, ◌++◌, Some, None, Option, sym, refl, ap, ◌∙◌, append_assoc, arith}
-use native.Mathlib.Nat.{max_comm}
+use Rattle.std.proofs.Common.{◌≡◌, ℕ, suc, ◌+◌, max, List, ◌∷◌, Some, None, refl, ap, ◌∙◌, append_assoc, arith}
 use Rattle.chunks.specs.declared.side.Side.{Side}
 use Rattle.chunks.specs.declared.side.Side.TheVariants.{Left, Right}
 use Rattle.chunks.specs.Tree.{Tree, leaf, node, slots, root, height}

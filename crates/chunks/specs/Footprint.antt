@@ -1,5 +1,5 @@
 -- Which slots a tree takes up, by counting: two trees are apart where no slot counts for both.
-use Rattle.std.specs.Prelude.{ℕ, ◌+◌, ◌≤◌, cond, List, [], ◌∷◌, ◌==◌, nat_lt}
+use Rattle.std.specs.Prelude.{ℕ, ◌+◌, cond, List, [], ◌∷◌, ◌==◌, nat_lt}
 use Rattle.chunks.specs.Tree.{Tree, slots}
 
 -- 1 for the slot itself, 0 for every other.

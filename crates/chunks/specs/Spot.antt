@@ -1,6 +1,6 @@
 -- Where a place lies in a list of chunks: the chunks that end before it or at it, the bytes that are left then, and the length
 -- of the chunk that has the place. A place at the text's end, or behind it, has all chunks before it, and no chunk has it.
-use Rattle.std.specs.Prelude.{ℕ, suc, ◌+◌, ◌-◌, cond, List, [], ◌∷◌, length, nat_lt}
+use Rattle.std.specs.Prelude.{ℕ, ◌+◌, ◌-◌, cond, List, [], ◌∷◌, length, nat_lt}
 use Rattle.chunks.specs.declared.spot.Spot.{Spot}
 
 -- The same place with n chunks more before it.

@@ -1,8 +1,7 @@
 -- The law over logs: a call that does as the rules say keeps a log lawful.
-use Rattle.std.proofs.Common.{◌≡◌, ℕ, zero, suc, ◌+◌, ◌-◌, ◌≤◌, Bool, true, false, cond, ◌&&◌, eqb, leb, List, [], ◌∷◌, length, take, Some, None, Option, sym, refl, ap, ◌∙◌, subst, ⊎_elim, arith}
+use Rattle.std.proofs.Common.{◌≡◌, ℕ, ◌≤◌, true, ◌&&◌, eqb, leb, List, [], ◌∷◌, length, Some, None, Option, sym, refl, ap, ◌∙◌, subst, arith}
 use Rattle.std.proofs.lemmas.Bool.{and_parts, eqb-true, leb-true}
 use Rattle.automaton.specs.Automaton.{Automaton}
-use Rattle.automaton.specs.Walk.{colours}
 use Rattle.chunks.specs.Cut.{joined}
 use Rattle.chunks.specs.Tree.{Balanced, height}
 use Rattle.measure.specs.Measure.{Measure}
@@ -12,8 +11,8 @@ use Rattle.slots.proofs.Holds.{balanced_held, low_held}
 use Rattle.slots.proofs.Reading.{whole_sound}
 use Rattle.model.specs.declared.change.Change.{Change}
 use Rattle.model.specs.declared.refusal.Refusal.{Refusal}
-use Rattle.model.specs.declared.refusal.Refusal.TheVariants.{DueStands, UnknownDue, ShortScreen}
-use Rattle.model.specs.Calls.{unless, unless_due, open_refusal, opened, edit_refusal, change_refusal, edited, same_change, stands, paint_refusal, screen_refusal, settled}
+use Rattle.model.specs.declared.refusal.Refusal.TheVariants.{UnknownDue, ShortScreen}
+use Rattle.model.specs.Calls.{unless_due, opened, edit_refusal, change_refusal, edited, same_change, stands, paint_refusal, screen_refusal}
 use Rattle.model.specs.Edit.{edited_text}
 use Rattle.model.specs.End.{edit_change, EndsFirst}
 use Rattle.model.specs.Laws.{ShowsText}
@@ -24,15 +23,13 @@ use Rattle.model.proofs.Ending.{ends_first}
 use Rattle.model.proofs.Painting.{painting_shows}
 use Rattle.tree.specs.declared.chunk_tree.ChunkTree.{ChunkTree}
 use Rattle.tree.specs.Public.{tree_in}
-use Rattle.editing.proofs.Planning.{passed, Allowed, was_allowed}
-use Rattle.document.specs.declared.document.Document.{Document}
+use Rattle.editing.proofs.Planning.{passed, was_allowed}
 use Rattle.document.specs.declared.call.Call.{Call}
 use Rattle.document.specs.declared.call.Call.TheVariants as call
-use Rattle.document.specs.declared.call.Answer.{Answer}
 use Rattle.document.specs.declared.call.Answer.TheVariants as answer
 use Rattle.document.specs.Content.{model_of, text, Keeps}
 use Rattle.document.specs.Log.{Snapshot, Entry, refusal_of, answer_done, model_done, screen_done, replied, left_by, Obeys, NamesItsEnd, Stands, New, latest, Follows}
-use Rattle.document.proofs.Opening.{none_usable, Openable, openable}
+use Rattle.document.proofs.Opening.{none_usable, openable}
 
 -- A change that waits: the screen still shows the text before the edit.
 pub record Waits (a : Automaton) (now-text screen : List ℕ) (c : Change) : Type 0 where

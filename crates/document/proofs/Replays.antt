@@ -1,6 +1,6 @@
 -- A log that grows call by call, from a new document on.
-use Rattle.std.proofs.Common.{◌≡◌, ℕ, suc, ◌+◌, ◌<◌, ◌≤◌, List, [], ◌∷◌, ◌++◌, map, reverse, length, get_or, take, drop, set, None, sym, refl, ap, ◌∙◌, subst, arith}
-use Rattle.std.proofs.lemmas.List.{length-append, take_more, take_more_set, reverse-append, map-append, drop-set-lt}
+use Rattle.std.proofs.Common.{◌≡◌, ℕ, List, [], ◌∷◌, ◌++◌, map, reverse, length, sym, refl, ap, ◌∙◌, subst, arith}
+use Rattle.std.proofs.lemmas.List.{length-append, reverse-append, map-append}
 use Rattle.automaton.specs.Automaton.{Automaton}
 use Rattle.chunks.specs.Tree.{Tree, leaf, node, slots}
 use Rattle.chunks.proofs.Footprint.{few_below}
@@ -13,7 +13,6 @@ use Rattle.tree.specs.declared.chunk_tree.ChunkTree.{ChunkTree}
 use Rattle.tree.specs.Public.{usable_of, KeptBy}
 use Rattle.document.specs.declared.call.Call.{Call}
 use Rattle.document.specs.declared.call.Answer.{Answer}
-use Rattle.document.specs.Content.{model_of, Keeps}
 use Rattle.document.specs.Log.{Snapshot, Entry, New, latest, Follows, Replayed}
 use Rattle.document.proofs.Law.{new_pending, stands_so}
 

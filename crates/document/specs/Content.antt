@@ -1,6 +1,5 @@
 -- What a document holds, as far as the rules speak of it.
 use Rattle.std.specs.Prelude.{◌≡◌, ℕ, List, length}
-use Rattle.automaton.specs.Automaton.{Automaton}
 use Rattle.measure.specs.Measure.{Measure}
 use Rattle.chunks.specs.Tree.{height}
 use Rattle.model.specs.Model.{Model}

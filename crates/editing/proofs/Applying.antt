@@ -1,21 +1,19 @@
 -- What comes in the place of a run, put together in a buffer; the numbers of an edit, and what it leaves.
-use Rattle.std.proofs.Common.{◌≡◌, ℕ, ◌+◌, ◌-◌, ◌<◌, ◌≤◌, Bool, true, false, cond, ◌&&◌, leb, List, [], ◌∷◌, ◌++◌, length, take, drop, Some, None, Option, sym, refl, ap, ◌∙◌, subst, append_assoc, arith}
+use Rattle.std.proofs.Common.{◌≡◌, ℕ, ◌+◌, ◌-◌, ◌≤◌, Bool, true, cond, List, ◌++◌, length, take, drop, Some, None, sym, refl, ap, ◌∙◌, subst, append_assoc, arith}
 use borrow.Rule.Slice.PartMut.{put_mid}
 use Rattle.std.specs.List.{between}
-use Rattle.std.proofs.lemmas.List.{length-append, length-take-le, length-drop, take_at, take-append-le, take-take, drop_all}
-use Rattle.std.proofs.lemmas.Slice.{take-put_mid, take-put_mid_below}
+use Rattle.std.proofs.lemmas.List.{length-append, length-take-le, length-drop, take_at}
+use Rattle.std.proofs.lemmas.Slice.{take-put_mid}
 use Rattle.std.proofs.lemmas.Bool.{le-leb, and_from, cond-true}
 use Rattle.automaton.specs.Automaton.{Automaton}
 use Rattle.automaton.specs.Walk.{walk, state_before}
 use Rattle.automaton.proofs.Walk.{walk_append}
 use Rattle.chunks.specs.Cut.{joined, cut, replaced, needed}
 use Rattle.slots.specs.Copy.{pasted}
-use Rattle.model.specs.declared.change.Change.{Change}
 use Rattle.model.specs.declared.run.Run.{Run}
 use Rattle.model.specs.Edit.{edited_text, edited_chunks, affected, middle, middle_length}
-use Rattle.model.specs.End.{apart, edit_end, edit_change}
-use Rattle.model.specs.Calls.{change_refusal, edited, fits}
-use Rattle.model.specs.Model.{Model}
+use Rattle.model.specs.End.{apart, edit_end}
+use Rattle.model.specs.Calls.{change_refusal}
 use Rattle.model.proofs.Editing.{length_between, middle_long, edit_leaves_text, edited_count}
 use Rattle.model.proofs.Ending.{edited_drop, edited_long}
 use Rattle.model.proofs.Runs.{Covers, covers_affected}

@@ -1,9 +1,9 @@
 -- Colours written into a buffer, and a change painted on a screen, as lists.
-use Rattle.std.proofs.Common.{◌≡◌, ℕ, ◌+◌, ◌-◌, ◌<◌, ◌≤◌, true, false, cond, ◌&&◌, leb, List, [], ◌∷◌, ◌++◌, length, take, drop, Some, None, Option, sym, refl, ap, ◌∙◌, subst, append_assoc, arith}
+use Rattle.std.proofs.Common.{◌≡◌, ℕ, ◌+◌, ◌-◌, ◌≤◌, true, cond, ◌&&◌, leb, List, ◌++◌, length, take, drop, Some, None, sym, ap, ◌∙◌, append_assoc, arith}
 use borrow.Rule.Slice.PartMut.{put_mid, post_of, Post-is}
 use lib.Seq.{paste}
 use Rattle.std.specs.List.{between}
-use Rattle.std.proofs.lemmas.List.{length-append, length-take-le, length-drop, take_at, drop_at, take-append-le, take-take, drop_all, append-nil}
+use Rattle.std.proofs.lemmas.List.{length-take-le, take_at, drop_at, take-append-le, take-take, drop_all, append-nil}
 use Rattle.std.proofs.lemmas.Bool.{le-leb, leb-true, and_from, and_parts, cond-true}
 use Rattle.automaton.specs.Automaton.{Automaton}
 use Rattle.automaton.specs.Walk.{colours_from, colours, state_before}
@@ -12,7 +12,6 @@ use Rattle.model.specs.declared.change.Change.{Change}
 use Rattle.model.specs.Calls.{unless, range_refusal, with_front, fits, screen_refusal, fitting_refusal}
 use Rattle.model.specs.Model.{Model, text_of}
 use Rattle.model.specs.Paint.{painted, length_before}
-use Rattle.model.specs.declared.refusal.Refusal.{Refusal}
 use Rattle.model.specs.declared.refusal.Refusal.TheVariants.{OutsideText, ShortBuffer, UnknownDue, ShortScreen}
 use Rattle.model.proofs.Painting.{take_colours, drop_colours}
 use Rattle.model.proofs.Editing.{length_between}

@@ -1,5 +1,5 @@
 -- Two walks over a whole text: where they end in different states, they have not met.
-use Rattle.std.proofs.Common.{◌≡◌, ℕ, ◌<◌, eqb, List, [], ◌∷◌, get_or, Some, None, sym, refl, ap, ◌∙◌}
+use Rattle.std.proofs.Common.{◌≡◌, ℕ, ◌<◌, eqb, List, [], ◌∷◌, get_or, Some, None, refl, ap, ◌∙◌}
 use Rattle.std.proofs.lemmas.Bool.{cond-false, ne_eqb}
 use Rattle.automaton.specs.Automaton.{Automaton, Lawful}
 use Rattle.automaton.specs.Walk.{walk}

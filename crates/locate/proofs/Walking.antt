@@ -1,5 +1,5 @@
 -- Walking to a place, byte by byte and over a whole text.
-use Rattle.std.proofs.Common.{◌≡◌, ℕ, zero, suc, ◌+◌, ◌-◌, ◌<◌, ◌≤◌, Bool, true, false, cond, eqb, List, [], ◌∷◌, length, get_or, take, Some, None, Option, sym, refl, ap, ◌∙◌, subst, arith}
+use Rattle.std.proofs.Common.{◌≡◌, ℕ, zero, suc, ◌-◌, ◌<◌, ◌≤◌, eqb, List, [], ◌∷◌, length, Some, None, sym, refl, ap, ◌∙◌, arith}
 use Rattle.std.proofs.lemmas.List.{take_all}
 use Rattle.std.proofs.lemmas.Bool.{cond-false, ne_eqb}
 use Rattle.automaton.specs.Automaton.{Automaton, Lawful}
@@ -9,7 +9,7 @@ use Rattle.measure.specs.Walk.{walk_measure, entry_at}
 use Rattle.measure.proofs.Walk.{entries_tell}
 use Rattle.measure.specs.declared.bounded_reading.Bounded.TheVariants.{Within}
 use Rattle.measure.specs.declared.walk_reading.Passage.{Passage}
-use Rattle.search.specs.Forwards.{then, through, stop, stop_or, shifted}
+use Rattle.search.specs.Forwards.{then, through, stop, stop_or}
 use Rattle.locate.specs.StateBefore.{walked, walk_on, WalkComesToPlace}
 use Rattle.locate.specs.declared.walked.Walked.{Walked}
 

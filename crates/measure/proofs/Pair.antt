@@ -1,5 +1,5 @@
 -- A pair of lawful meters is lawful, and reads a text as the two of them do.
-use Rattle.std.proofs.Common.{◌≡◌, ℕ, List, [], ◌∷◌, ◌++◌, sym, refl, ap, ◌∙◌}
+use Rattle.std.proofs.Common.{◌≡◌, ℕ, List, [], ◌∷◌, sym, refl, ap, ◌∙◌}
 use Rattle.measure.specs.Measure.{Measure, reading, Lawful}
 use Rattle.measure.specs.Pair.{pair_measure}
 use Rattle.measure.specs.declared.pair_reading.PairReading.{PairReading}

@@ -1,11 +1,10 @@
 -- The meter of places is lawful, and its reading of a text is what `place-reading` says.
-use Rattle.std.proofs.Common.{◌≡◌, ℕ, ◌+◌, ◌*◌, ◌≤◌, cond, eqb, leb, List, [], ◌∷◌, ◌++◌, length, sym, refl, ap, ◌∙◌, add_assoc, arith}
+use Rattle.std.proofs.Common.{◌≡◌, ℕ, ◌+◌, ◌*◌, ◌≤◌, cond, eqb, List, [], ◌∷◌, ◌++◌, length, sym, refl, ap, ◌∙◌, arith}
 use Rattle.std.proofs.lemmas.List.{length-append}
-use Rattle.std.proofs.lemmas.Bool.{cases_lt, cases_Bool}
 use Rattle.std.proofs.lemmas.Bool.Decides.{nat_tests}
 use Rattle.measure.specs.Measure.{reading, Lawful}
-use Rattle.measure.specs.Bounded.{longest, capped}
-use Rattle.measure.specs.Place.{ends_line, width, line_ends, units, extent, place_reading, join_extents, place_measure}
+use Rattle.measure.specs.Bounded.{longest}
+use Rattle.measure.specs.Place.{line_ends, units, extent, place_reading, join_extents, place_measure}
 use Rattle.measure.specs.declared.bounded_reading.Bounded.TheVariants.{Within}
 use Rattle.measure.specs.declared.place_reading.Extent.{Extent}
 use Rattle.measure.proofs.Bounded.{join_said}

@@ -1,5 +1,5 @@
 -- The meter of walks is lawful, its reading of a text is what `walk-reading` says, and each entry tells of the text.
-use Rattle.std.proofs.Common.{◌≡◌, ℕ, ◌+◌, ◌-◌, ◌<◌, ◌≤◌, min, cond, ltb, List, [], ◌∷◌, ◌++◌, length, get_or, sym, refl, ap, ◌∙◌, subst, ⊎_elim, arith}
+use Rattle.std.proofs.Common.{◌≡◌, ℕ, ◌+◌, ◌-◌, ◌<◌, ◌≤◌, min, cond, ltb, List, [], ◌∷◌, ◌++◌, length, sym, refl, ap, ◌∙◌, subst, ⊎_elim, arith}
 use Rattle.std.proofs.lemmas.List.{length-append}
 use Rattle.std.proofs.lemmas.Bool.{cases_lt, cond-true, cond-false, lt-ltb, le-ltb}
 use Rattle.automaton.specs.Automaton.{Automaton, Lawful as LawfulGrammar}
@@ -7,11 +7,10 @@ use Rattle.automaton.specs.Bracket.{role}
 use Rattle.automaton.specs.Walk.{walk}
 use Rattle.automaton.proofs.Walk.{walk_append}
 use Rattle.measure.specs.Measure.{reading, Lawful}
-use Rattle.measure.specs.Bounded.{longest, bounded, capped}
-use Rattle.measure.specs.Unmatched.{opens, closes, unmatched_closings, unmatched_openings}
-use Rattle.measure.specs.Walk.{entry, rows, passage, walk_reading, still, over_byte, join_entries, entry_at, onward, through, join_passages, walk_measure, Tells, EntriesTell}
-use Rattle.measure.specs.declared.bounded_reading.Bounded.{Bounded}
-use Rattle.measure.specs.declared.bounded_reading.Bounded.TheVariants.{Within, Overlong}
+use Rattle.measure.specs.Bounded.{longest, capped}
+use Rattle.measure.specs.Unmatched.{unmatched_closings, unmatched_openings}
+use Rattle.measure.specs.Walk.{entry, passage, walk_reading, still, over_byte, join_entries, entry_at, onward, through, join_passages, walk_measure, Tells, EntriesTell}
+use Rattle.measure.specs.declared.bounded_reading.Bounded.TheVariants.{Within}
 use Rattle.measure.specs.declared.walk_reading.Entry.{Entry}
 use Rattle.measure.specs.declared.walk_reading.Passage.{Passage}
 use Rattle.measure.proofs.Measure.{reading_whole, lawful_whole}

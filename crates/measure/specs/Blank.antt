@@ -1,6 +1,5 @@
 -- The blank meter: it tells nothing, so that it has one reading for every text.
 -- It stands where a meter is asked for and none is wanted.
-use Rattle.std.specs.Prelude.{ℕ}
 use Rattle.measure.specs.Measure.{Measure}
 
 abbrev pub blank_measure : Measure (Unit {0})

@@ -1,5 +1,4 @@
 -- Two meters as one: each reading is a pair, and nothing passes from one side to the other.
-use Rattle.std.specs.Prelude.{ℕ}
 use Rattle.measure.specs.Measure.{Measure}
 use Rattle.measure.specs.declared.pair_reading.PairReading.{PairReading}
 

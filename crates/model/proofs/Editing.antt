@@ -1,14 +1,14 @@
 -- An edit's chunks have the edited text; how many they are.
-use Rattle.std.proofs.Common.{◌≡◌, ℕ, ◌+◌, ◌-◌, ◌<◌, ◌≤◌, List, ◌++◌, length, take, drop, sym, refl, ap, ◌∙◌, append_assoc, arith, take-add}
+use Rattle.std.proofs.Common.{◌≡◌, ℕ, ◌+◌, ◌-◌, ◌≤◌, List, ◌++◌, length, take, drop, sym, ap, ◌∙◌, append_assoc, arith, take-add}
 use Rattle.std.specs.List.{between}
 use Rattle.std.proofs.lemmas.List.{length-append, length-drop, length-take-le, take-append-drop, drop-drop}
-use Rattle.chunks.specs.Cut.{joined, cut, replaced, needed}
+use Rattle.chunks.specs.Cut.{joined, cut, needed}
 use Rattle.chunks.proofs.Cut.{cut_joined, cut_length}
 use Rattle.chunks.proofs.Joined.{joined_append, joined_take, joined_drop}
 use Rattle.model.specs.declared.run.Run.{Run}
-use Rattle.model.specs.Edit.{run_of, edited_text, edited_chunks, affected, middle, middle_length}
+use Rattle.model.specs.Edit.{edited_text, edited_chunks, affected, middle, middle_length}
 use Rattle.model.specs.Laws.{EditLeavesText}
-use Rattle.model.proofs.Runs.{Covers, covers_affected}
+use Rattle.model.proofs.Runs.{covers_affected}
 
 -- A list up to a place, from an earlier one on; and behind it, from there to a later one.
 pub take_between : {X : Type 0} (i j : ℕ) (xs : List X) → i ≤ j → take i xs ++ between i j xs ≡ take j xs

@@ -1,11 +1,10 @@
 -- The end of an edit is the first place where the walks share a state.
 use Rattle.std.proofs.Common.{◌≡◌, ℕ, zero, suc, ◌+◌, ◌-◌, ◌<◌, ◌≤◌, eqb, ◌⊎◌, List, [], ◌∷◌, ◌++◌, length, take, drop, sym, refl, ap, ◌∙◌, subst, inl, inr, ⊎_elim, arith, take-add}
-use Rattle.std.proofs.lemmas.List.{length-append, length-drop, length-take-le, drop-drop, drop_at, append_assoc}
+use Rattle.std.proofs.lemmas.List.{length-append, length-drop, length-take-le, drop_at, append_assoc}
 use Rattle.std.proofs.lemmas.Bool.{cases_eq, cond-true, cond-false, eq-eqb, ne_eqb}
 use Rattle.automaton.specs.Automaton.{Automaton}
 use Rattle.automaton.specs.Walk.{walk, state_before}
 use Rattle.automaton.proofs.Walk.{walk_append}
-use Rattle.model.specs.declared.change.Change.{Change}
 use Rattle.model.specs.Edit.{edited_text}
 use Rattle.model.specs.End.{apart, edit_end, edit_change, EndsFirst}
 use Rattle.model.specs.Laws.{EditEndsFirst}

@@ -1,17 +1,16 @@
 -- Painting an edit: the screen then shows the new text.
-use Rattle.std.proofs.Common.{◌≡◌, ℕ, zero, suc, ◌+◌, ◌-◌, ◌<◌, ◌≤◌, List, [], ◌∷◌, ◌++◌, length, take, drop, sym, refl, ap, ◌∙◌, ⊎_elim, append_assoc, arith}
-use lib.Seq.{take-nil, drop-nil}
+use Rattle.std.proofs.Common.{◌≡◌, ℕ, zero, suc, ◌+◌, ◌-◌, ◌≤◌, List, [], ◌∷◌, ◌++◌, length, take, drop, sym, refl, ap, ◌∙◌, ⊎_elim, append_assoc, arith}
 use Rattle.std.specs.List.{between}
 use Rattle.std.proofs.lemmas.List.{length-append, length-drop, length-take-le, take-take, take_at, take-append-drop, drop_all, drop-drop, take-append-le, drop-take}
 use Rattle.automaton.specs.Automaton.{Automaton}
 use Rattle.automaton.specs.Walk.{walk, colours_from, colours, state_before}
-use Rattle.automaton.proofs.Walk.{colours_append, colours_length}
+use Rattle.automaton.proofs.Walk.{colours_length}
 use Rattle.model.specs.declared.change.Change.{Change}
 use Rattle.model.specs.Edit.{edited_text}
-use Rattle.model.specs.End.{apart, edit_end, edit_change, EndsFirst}
+use Rattle.model.specs.End.{edit_change, EndsFirst}
 use Rattle.model.specs.Paint.{length_before, painted}
 use Rattle.model.specs.Laws.{ShowsText, PaintingShowsText}
-use Rattle.model.proofs.Editing.{take_between, between_drop, length_between}
+use Rattle.model.proofs.Editing.{between_drop}
 use Rattle.model.proofs.Ending.{edited_drop, edited_long, ends_first}
 
 pub take_colours : (a : Automaton) (s i : ℕ) (xs : List ℕ) → take i (colours_from a s xs) ≡ colours_from a s (take i xs)

@@ -1,11 +1,10 @@
 -- The chunks that an edit replaces cover its range; how many bytes come in their place.
-use Rattle.std.proofs.Common.{◌≡◌, ℕ, ◌+◌, ◌-◌, ◌<◌, ◌≤◌, true, false, cond, ◌&&◌, eqb, ltb, leb, List, [], ◌∷◌, ◌++◌, length, take, drop, sym, refl, ap, ◌∙◌, subst, ⊎_elim, arith}
+use Rattle.std.proofs.Common.{◌≡◌, ℕ, ◌+◌, ◌-◌, ◌<◌, ◌≤◌, true, cond, eqb, ltb, leb, List, length, refl, ap, ⊎_elim, arith}
 use Rattle.std.specs.List.{AllByRecursion as All}
-use Rattle.std.proofs.lemmas.Bool.{cases_lt, cases_Bool, cond-true, cond-false, cond_both, ltb-true, ltb-false, lt-ltb, le-ltb, eqb-true, eqb-false, leb-true, and_parts}
+use Rattle.std.proofs.lemmas.Bool.{cases_lt, cond-true, cond-false, cond_both, ltb-true, lt-ltb, le-ltb, eqb-true, eqb-false, leb-true, and_parts}
 use Rattle.chunks.specs.Cut.{joined, Chunk}
 use Rattle.chunks.specs.Spot.{spot_in}
-use Rattle.chunks.specs.declared.spot.Spot.{Spot}
-use Rattle.chunks.proofs.Joined.{start, start_within, start_monotone, start_step, Spotted, spotted, spots_ordered, spot_small}
+use Rattle.chunks.proofs.Joined.{start, start_within, start_monotone, start_step, spotted, spots_ordered, spot_small}
 use Rattle.model.specs.declared.run.Run.{Run}
 use Rattle.model.specs.Edit.{run_of, first_byte, last_byte, touched, middle_length, few, with_neighbour, affected}
 

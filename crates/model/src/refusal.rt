@@ -1,4 +1,6 @@
-// Why a call is refused, and the place that the refusal carries.
+// Why a call is refused, and the number, the layer and the place that the refusal carries.
+ghost use Rattle.std.specs.Prelude.{◌≡◌};
+ghost use Rattle.model.specs.Refusal.{number as number_of, layer as layer_of, place as place_of};
 
 #[derive(Clone, Copy, PartialEq, Eq, Debug)]
 pub enum Refusal {
@@ -31,4 +33,62 @@ pub enum Refusal {
 pub enum Layer {
     Tree,
     Document,
+}
+
+impl Refusal {
+    // The number under which the rules list the reason.
+    pub fn number(self) -> u8
+        ensures { result ≡ number_of self }
+    {
+        match self {
+            Refusal::OpenedBefore => 1,
+            Refusal::SlotCount(_) => 2,
+            Refusal::LentLength(_) => 3,
+            Refusal::UnusableGrammar => 4,
+            Refusal::DueStands(_) => 5,
+            Refusal::OutsideText(_) => 6,
+            Refusal::TooManyBytes(_) => 7,
+            Refusal::TooManyChunks(_) => 8,
+            Refusal::UnknownDue(_) => 9,
+            Refusal::ShortScreen(_) => 10,
+            Refusal::ShortBuffer(_) => 11,
+        }
+    }
+
+    // The layer that refuses.
+    pub fn layer(self) -> Layer
+        ensures { result ≡ layer_of self }
+    {
+        match self {
+            Refusal::SlotCount(_)
+            | Refusal::LentLength(_)
+            | Refusal::OutsideText(_)
+            | Refusal::TooManyBytes(_)
+            | Refusal::TooManyChunks(_) => Layer::Tree,
+            Refusal::OpenedBefore
+            | Refusal::UnusableGrammar
+            | Refusal::DueStands(_)
+            | Refusal::UnknownDue(_)
+            | Refusal::ShortScreen(_)
+            | Refusal::ShortBuffer(_) => Layer::Document,
+        }
+    }
+
+    // The place that the refusal carries: 0 where there is none to tell.
+    pub fn place(self) -> u64
+        ensures { result ≡ place_of self }
+    {
+        match self {
+            Refusal::OpenedBefore | Refusal::UnusableGrammar => 0,
+            Refusal::SlotCount(count)
+            | Refusal::LentLength(count)
+            | Refusal::DueStands(count)
+            | Refusal::OutsideText(count)
+            | Refusal::TooManyBytes(count)
+            | Refusal::TooManyChunks(count)
+            | Refusal::UnknownDue(count)
+            | Refusal::ShortScreen(count)
+            | Refusal::ShortBuffer(count) => count,
+        }
+    }
 }

@@ -1,5 +1,5 @@
 -- Every colour of the palette has two digits.
-use Rattle.std.proofs.Common.{ℕ, ◌%◌, ◌<◌, get_or, mod-lt, arith}
+use Rattle.std.proofs.Common.{ℕ, ◌%◌, ◌<◌, get_or, arith}
 use Rattle.std.specs.List.{AllByRecursion as All}
 use Rattle.std.proofs.ByRecursion.{All-get_or}
 use Rattle.report.specs.Rendered.{palette}

@@ -1,5 +1,5 @@
 -- What the two meters read of a text is its summary.
-use Rattle.std.proofs.Common.{◌≡◌, ℕ, ◌<◌, ◌≤◌, leb, List, length, Some, None, Option, sym, refl, ap, ◌∙◌, ⊎_elim, arith}
+use Rattle.std.proofs.Common.{◌≡◌, ℕ, ◌<◌, ◌≤◌, leb, List, length, Some, None, Option, sym, ap, ◌∙◌, ⊎_elim, arith}
 use Rattle.std.proofs.lemmas.Bool.{cases_lt, cond-true, cond-false, le-leb, lt-leb}
 use Rattle.automaton.specs.Automaton.{Automaton, Lawful}
 use Rattle.measure.specs.Bounded.{longest}
@@ -12,7 +12,7 @@ use Rattle.measure.proofs.Pair.{pair_reading}
 use Rattle.measure.proofs.Place.{place_is}
 use Rattle.measure.proofs.Rows.{get_d_rows}
 use Rattle.measure.proofs.Walk.{walk_is}
-use Rattle.measure.specs.declared.bounded_reading.Bounded.TheVariants.{Within, Overlong}
+use Rattle.measure.specs.declared.bounded_reading.Bounded.TheVariants.{Within}
 use Rattle.measure.specs.declared.pair_reading.PairReading.{PairReading}
 use Rattle.measure.specs.declared.walk_reading.Entry.{Entry}
 use Rattle.report.specs.Summary.{summary, summarized}

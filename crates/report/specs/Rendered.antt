@@ -1,6 +1,6 @@
 -- What the program writes for a text and its colours, byte by byte, in one of two views.
 -- Digits shows each class as a digit; Terminal shows the text itself in the terminal's colours.
-use Rattle.std.specs.Prelude.{ℕ, ◌+◌, ◌/◌, ◌%◌, Bool, cond, not, ◌&&◌, List, [], ◌∷◌, ◌++◌, ◌==◌, nat_le, nat_lt, slice_index}
+use Rattle.std.specs.Prelude.{ℕ, ◌+◌, ◌/◌, ◌%◌, cond, not, ◌&&◌, List, [], ◌∷◌, ◌++◌, ◌==◌, nat_le, nat_lt, slice_index}
 use Rattle.report.specs.declared.view.View.{View}
 use Rattle.report.specs.declared.view.View.TheVariants.{Digits, Terminal}
 

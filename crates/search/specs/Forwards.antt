@@ -1,6 +1,6 @@
 -- A search from left to right keeps a small value of type A and takes one byte after another.
 -- `next` gives the value behind a byte, or nothing where the search stops before it.
-use Rattle.std.specs.Prelude.{◌≡◌, ℕ, ◌+◌, ◌<◌, ◌≤◌, Bool, true, false, cond, List, [], ◌∷◌, length, take, Some, None, Option, slice_index}
+use Rattle.std.specs.Prelude.{◌≡◌, ℕ, ◌+◌, ◌<◌, ◌≤◌, true, false, cond, List, [], ◌∷◌, length, take, Some, None, Option, slice_index}
 use Rattle.search.specs.declared.stop.Stop.{Stop}
 
 module _ {A : Type 0} where

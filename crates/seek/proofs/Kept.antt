@@ -1,5 +1,5 @@
 -- What a slot at the top of a tree keeps, and the text of a tree in three parts.
-use Rattle.std.proofs.Common.{◌≡◌, ℕ, ◌<◌, ◌≤◌, List, ◌++◌, length, get_or, Some, None, Option, sym, refl, ap, ◌∙◌, subst, append_assoc, arith, length-append}
+use Rattle.std.proofs.Common.{◌≡◌, ℕ, ◌<◌, ◌≤◌, ◌++◌, get_or, Some, Option, sym, refl, ap, ◌∙◌, subst, append_assoc, arith}
 use Rattle.chunks.specs.declared.side.Side.TheVariants.{Left, Right}
 use Rattle.chunks.specs.Sides.{around}
 use Rattle.chunks.specs.Tree.{Tree, leaf, node, root, height}

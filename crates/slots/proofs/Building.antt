@@ -1,18 +1,17 @@
 -- A tree made of free slots: one side, a slot with its chunk, the other side, joined.
-use Rattle.std.proofs.Common.{◌≡◌, ℕ, zero, suc, ◌+◌, ◌-◌, ◌<◌, ◌≤◌, List, [], ◌∷◌, ◌++◌, map, length, get_or, take, drop, Some, None, Option, sym, refl, ap, ◌∙◌, subst, add-one, arith}
-use Rattle.std.proofs.lemmas.List.{take-append-drop, length-take-le, length-drop, drop_more, drop-drop, map-append}
+use Rattle.std.proofs.Common.{◌≡◌, ℕ, suc, ◌+◌, ◌<◌, ◌≤◌, List, [], ◌∷◌, ◌++◌, map, length, get_or, take, drop, Option, sym, refl, ap, ◌∙◌, subst, add-one, arith}
+use Rattle.std.proofs.lemmas.List.{take-append-drop, length-take-le, length-drop, drop_more, map-append}
 use Rattle.measure.specs.Measure.{Measure}
 use Rattle.chunks.specs.declared.side.Side.TheVariants.{Left}
-use Rattle.chunks.specs.Tree.{Tree, leaf, node, root, slots}
+use Rattle.chunks.specs.Tree.{Tree, leaf, root, slots}
 use Rattle.chunks.specs.Footprint.{one, count, uses, below}
 use Rattle.chunks.specs.Cut.{Chunk, part, chunk_at}
 use Rattle.chunks.proofs.Cut.{part_split}
 use Rattle.chunks.proofs.Footprint.{one_same, count_append, below_few, first_below}
 use Rattle.slots.specs.declared.memory.Memory.{Memory}
 use Rattle.slots.specs.Claim.{Claim, nothing, Fair}
-use Rattle.slots.specs.View.{size_of, chunk_of, chunks_of, next_of, Roomy}
-use Rattle.slots.specs.Holds.{Holds, Owned, Ready}
-use Rattle.slots.specs.Frame.{Frame}
+use Rattle.slots.specs.View.{size_of, chunk_of, chunks_of}
+use Rattle.slots.specs.Holds.{Holds, Ready}
 use Rattle.slots.specs.Join.{Joined}
 use Rattle.slots.specs.Free.{Stack, Idle, Elsewhere, Stored, Built}
 use Rattle.slots.proofs.Frame.{chunk_same}

@@ -1,5 +1,5 @@
 -- Every chunk of a tree that memory holds has 1 to 64 bytes.
-use Rattle.std.proofs.Common.{◌≡◌, ℕ, sym, subst, arith}
+use Rattle.std.proofs.Common.{sym, subst, arith}
 use Rattle.std.specs.List.{AllByRecursion as All}
 use Rattle.std.proofs.ByRecursion.{All-append}
 use Rattle.chunks.specs.Tree.{Tree, leaf, node}

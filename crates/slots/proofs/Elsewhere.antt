@@ -1,5 +1,5 @@
 -- What stays true of slots that were not touched.
-use Rattle.std.proofs.Common.{◌≡◌, ℕ, zero, suc, ◌+◌, ◌*◌, ◌<◌, ◌≤◌, List, [], ◌∷◌, ◌++◌, map, length, get_or, take, drop, set, Some, None, Option, sym, refl, ap, ◌∙◌, subst, arith}
+use Rattle.std.proofs.Common.{◌≡◌, ℕ, zero, suc, ◌+◌, ◌*◌, ◌≤◌, List, [], ◌∷◌, map, length, get_or, take, drop, set, None, Option, sym, refl, ap, ◌∙◌, subst, arith}
 use Rattle.chunks.specs.Tree.{Tree, leaf, node, slots, height}
 use Rattle.chunks.specs.Footprint.{one, count, uses, below}
 use Rattle.chunks.specs.Cut.{joined}
@@ -8,11 +8,11 @@ use Rattle.std.proofs.lemmas.List.{get_or-set_other, length-set}
 use Rattle.slots.specs.declared.memory.Memory.{Memory}
 use Rattle.slots.specs.declared.slot.Slot.{Slot}
 use Rattle.slots.specs.Claim.{Claim, nothing}
-use Rattle.slots.specs.View.{size_of, next_of, chunk_of, chunks_of, text_of, extent_of, Roomy}
+use Rattle.slots.specs.View.{size_of, next_of, chunks_of, extent_of, Roomy}
 use Rattle.slots.specs.Holds.{Here, Holds, Owned}
 use Rattle.slots.specs.Frame.{Frame}
 use Rattle.slots.specs.Split.{Held}
-use Rattle.slots.specs.Free.{Stack, Idle, Elsewhere, freed}
+use Rattle.slots.specs.Free.{Stack, Elsewhere, freed}
 use Rattle.slots.proofs.Says.{says_same}
 use Rattle.slots.proofs.Frame.{chunk_same}
 use Rattle.slots.proofs.Text.{chunks_node}

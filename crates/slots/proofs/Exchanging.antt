@@ -1,18 +1,17 @@
 -- What one exchange of chunks comes to: the tree that memory holds then, and that there are slots enough.
-use Rattle.std.proofs.Common.{◌≡◌, ℕ, suc, ◌+◌, ◌-◌, ◌<◌, ◌≤◌, List, [], ◌∷◌, ◌++◌, map, length, take, drop, Option, sym, refl, ap, ◌∙◌, subst, arith}
+use Rattle.std.proofs.Common.{◌≡◌, ℕ, ◌+◌, ◌-◌, ◌≤◌, List, ◌++◌, length, take, Option, sym, refl, ap, ◌∙◌, subst, arith}
 use Rattle.std.proofs.lemmas.List.{length-append, length-map, length-take-le, length-drop}
 use Rattle.measure.specs.Measure.{Measure}
 use Rattle.chunks.specs.Tree.{Tree, slots}
-use Rattle.chunks.specs.Footprint.{uses, count, below}
 use Rattle.chunks.specs.Cut.{cut, needed, replaced}
 use Rattle.chunks.proofs.Footprint.{count_append, all_below}
 use Rattle.slots.specs.declared.memory.Memory.{Memory}
-use Rattle.slots.specs.Claim.{Claim, nothing, kept, Fair}
+use Rattle.slots.specs.Claim.{kept}
 use Rattle.slots.specs.View.{chunk_of, chunks_of}
 use Rattle.slots.specs.Holds.{Holds}
 use Rattle.slots.specs.Replace.{Whole, Parted, SameSize, Removed, Filled}
-use Rattle.slots.specs.Sound.{tree_of, Sound, chunks_in, Kept}
-use Rattle.slots.proofs.Reading.{tree_is, sound_whole}
+use Rattle.slots.specs.Sound.{chunks_in, Kept}
+use Rattle.slots.proofs.Reading.{tree_is}
 use Rattle.slots.proofs.Replacing.{size_trans}
 
 -- The free slots are as many as the trees leave.

@@ -1,5 +1,5 @@
 -- Giving the slots of a tree back: those of the left side, those of the right side, the slot on top.
-use Rattle.std.proofs.Common.{◌≡◌, ℕ, suc, ◌+◌, ◌<◌, ◌≤◌, List, [], ◌∷◌, Some, None, Option, sym, refl, ap, ◌∙◌, subst, arith}
+use Rattle.std.proofs.Common.{◌≡◌, ℕ, ◌+◌, ◌<◌, ◌≤◌, List, Some, Option, sym, subst, arith}
 use Rattle.chunks.specs.Tree.{Tree, leaf, node, root}
 use Rattle.chunks.specs.Footprint.{one, count, uses, below}
 use Rattle.chunks.proofs.Footprint.{uses_node, below_few}

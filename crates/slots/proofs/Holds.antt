@@ -1,15 +1,15 @@
 -- What follows from a tree that memory holds: it is balanced and low, it stays under a frame, its root is known.
-use Rattle.std.proofs.Common.{◌≡◌, ℕ, suc, ◌+◌, ◌*◌, ◌<◌, ◌≤◌, List, [], ◌∷◌, ◌++◌, length, get_or, Some, None, Option, sym, refl, ap, ◌∙◌, subst, arith}
+use Rattle.std.proofs.Common.{◌≡◌, ℕ, ◌+◌, ◌*◌, ◌≤◌, List, ◌∷◌, ◌++◌, length, sym, ap, ◌∙◌, subst, arith}
 use Rattle.std.proofs.lemmas.List.{length-append}
-use Rattle.chunks.specs.Tree.{Tree, leaf, node, slots, root, height, Level, Balanced}
+use Rattle.chunks.specs.Tree.{Tree, leaf, node, slots, height, Balanced}
 use Rattle.chunks.specs.Footprint.{one, uses, below}
 use Rattle.chunks.proofs.Footprint.{one_same, uses_node, few_below}
 use Rattle.chunks.proofs.Balance.{low_if_balanced}
 use Rattle.slots.specs.declared.memory.Memory.{Memory}
 use Rattle.slots.specs.declared.slot.Slot.{Slot}
-use Rattle.slots.specs.Claim.{Claim, nothing, Says}
-use Rattle.slots.specs.View.{size_of, chunk_of, text_of, extent_of, Roomy}
-use Rattle.slots.specs.Holds.{Placed, Here, Holds, Owned}
+use Rattle.slots.specs.Claim.{Claim}
+use Rattle.slots.specs.View.{chunk_of, text_of, Roomy}
+use Rattle.slots.specs.Holds.{Here, Holds, Owned}
 use Rattle.slots.specs.Frame.{Frame}
 use Rattle.slots.proofs.Says.{says_same}
 use Rattle.slots.proofs.Text.{text_node, chunk_length}

@@ -1,11 +1,11 @@
 -- What joining two trees of any heights rests on: where it goes down, and how high the tree is then.
-use Rattle.std.proofs.Common.{◌≡◌, ℕ, zero, suc, ◌+◌, ◌*◌, ◌<◌, ◌≤◌, max, List, [], ◌∷◌, map, length, get_or, Some, None, Option, sym, refl, ap, ◌∙◌, subst, ⊎_elim, arith}
+use Rattle.std.proofs.Common.{◌≡◌, ℕ, zero, suc, ◌<◌, ◌≤◌, List, [], ◌∷◌, map, length, get_or, Some, Option, sym, ap, ◌∙◌, subst, ⊎_elim, arith}
 use Rattle.std.proofs.lemmas.Bool.{cases_lt}
 use Rattle.measure.specs.Measure.{Measure}
 use Rattle.chunks.specs.declared.side.Side.{Side}
-use Rattle.chunks.specs.Tree.{Tree, leaf, node, root, height, Level}
-use Rattle.chunks.specs.Sides.{other, around}
-use Rattle.chunks.proofs.Sides.{height_around, root_around}
+use Rattle.chunks.specs.Tree.{Tree, leaf, node, root, height}
+use Rattle.chunks.specs.Sides.{around}
+use Rattle.chunks.proofs.Sides.{height_around}
 use Rattle.slots.specs.declared.memory.Memory.{Memory}
 use Rattle.slots.specs.declared.slot.Slot.{Slot}
 use Rattle.slots.specs.declared.slot.Extent.{Extent}
@@ -13,7 +13,7 @@ use Rattle.slots.specs.Claim.{nothing}
 use Rattle.slots.specs.View.{height_at, Roomy}
 use Rattle.slots.specs.Holds.{Holds, Ready}
 use Rattle.slots.specs.Join.{Linked, Joined, Settled, Grown}
-use Rattle.slots.proofs.Turning.{Parts, parts, joined_linked, joined_turned, ready_inner, ready_outer, joined_over}
+use Rattle.slots.proofs.Turning.{parts, joined_linked, ready_inner, ready_outer, joined_over}
 use Rattle.slots.proofs.Rotating.{Seen}
 
 -- What holds of an element for every default holds of the list of what f sees.

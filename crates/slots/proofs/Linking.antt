@@ -1,23 +1,22 @@
 -- What linking one slot between two trees rests on.
-use Rattle.std.proofs.Common.{◌≡◌, ℕ, suc, ◌+◌, ◌*◌, ◌<◌, ◌≤◌, max, List, [], ◌∷◌, ◌++◌, length, get_or, Some, None, Option, sym, refl, ap, ◌∙◌, subst, append_assoc, arith}
+use Rattle.std.proofs.Common.{◌≡◌, ℕ, suc, ◌+◌, ◌*◌, ◌≤◌, max, [], ◌∷◌, ◌++◌, length, get_or, Some, None, Option, sym, refl, ap, ◌∙◌, subst, arith}
 use Rattle.std.proofs.lemmas.List.{length-append}
-use Rattle.measure.specs.Measure.{Measure, Lawful}
+use Rattle.measure.specs.Measure.{Measure}
 use Rattle.chunks.specs.declared.side.Side.TheVariants.{Left}
 use Rattle.chunks.specs.Tree.{Tree, leaf, node, slots, root, height, Level}
-use Rattle.chunks.specs.Footprint.{one, uses, below, count}
+use Rattle.chunks.specs.Footprint.{one}
 use Rattle.chunks.proofs.Footprint.{uses_node, few_below, below_few}
 use Rattle.slots.specs.declared.memory.Memory.{Memory}
-use Rattle.slots.specs.declared.slot.Slot.{Slot}
 use Rattle.slots.specs.declared.slot.Node.{Node}
 use Rattle.slots.specs.declared.slot.Extent.{Extent}
 use Rattle.slots.specs.Claim.{Claim, nothing, Says, Fair}
-use Rattle.slots.specs.View.{size_of, chunk_of, text_of, extent_of, Roomy}
-use Rattle.slots.specs.Holds.{Placed, Here, Holds, Owned, Ready}
+use Rattle.slots.specs.View.{size_of, chunk_of, text_of, extent_of}
+use Rattle.slots.specs.Holds.{Here, Holds, Owned, Ready}
 use Rattle.slots.specs.Frame.{Frame}
 use Rattle.slots.specs.Join.{Linked, PlacedAnew}
-use Rattle.slots.proofs.Says.{says_same, says_join}
-use Rattle.slots.proofs.Text.{text_node, chunk_length, size_read}
-use Rattle.slots.proofs.Frame.{chunk_same, size_same, text_same, extent_same, own_same}
+use Rattle.slots.proofs.Says.{says_same}
+use Rattle.slots.proofs.Text.{text_node, chunk_length}
+use Rattle.slots.proofs.Frame.{size_same, text_same, extent_same}
 use Rattle.slots.proofs.Holds.{low_held, short_held, holds_frame, owned_frame}
 
 module _ {R : Type 0} {m : Memory R} {near : Option ℕ} {a : Tree} {i : ℕ} {far : Option ℕ} {b : Tree} (ready : Ready m near a i far b) where

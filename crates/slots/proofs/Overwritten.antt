@@ -1,5 +1,5 @@
 -- What writing over as many chunks comes to.
-use Rattle.std.proofs.Common.{◌≡◌, ℕ, ◌+◌, ◌-◌, ◌<◌, ◌≤◌, List, length, Option, sym, refl, ap, ◌∙◌, subst, arith}
+use Rattle.std.proofs.Common.{◌≡◌, ℕ, ◌+◌, ◌-◌, ◌≤◌, List, length, Option, sym, refl, ap, ◌∙◌, subst, arith}
 use Rattle.measure.specs.Measure.{Measure}
 use Rattle.chunks.specs.Tree.{Tree}
 use Rattle.chunks.specs.Footprint.{uses, count, below}
@@ -13,7 +13,7 @@ use Rattle.slots.specs.View.{chunks_of}
 use Rattle.slots.specs.Holds.{Holds}
 use Rattle.slots.specs.Free.{Stack}
 use Rattle.slots.specs.Replace.{Whole, SameSize}
-use Rattle.slots.specs.Sound.{Sound, Kept, chunks_in}
+use Rattle.slots.specs.Sound.{Kept, chunks_in}
 use Rattle.slots.specs.Rewrite.{Rewritten}
 use Rattle.slots.proofs.Elsewhere.{roomy_elsewhere, stack_elsewhere}
 use Rattle.slots.proofs.Reading.{tree_is}

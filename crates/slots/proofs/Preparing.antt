@@ -1,10 +1,10 @@
 -- The slots made free one by one, from the last to the first.
-use Rattle.std.proofs.Common.{◌≡◌, ℕ, suc, ◌+◌, ◌-◌, ◌<◌, ◌≤◌, List, [], ◌∷◌, Some, None, Option, sym, refl, ap, ◌∙◌, subst, arith}
+use Rattle.std.proofs.Common.{◌≡◌, ℕ, suc, ◌+◌, ◌-◌, ◌<◌, ◌≤◌, [], ◌∷◌, Some, None, Option, sym, refl, ap, subst, arith}
 use Rattle.std.specs.List.{range_with_len}
 use Rattle.std.proofs.lemmas.Bool.Decides.{nat_tests}
 use Rattle.chunks.specs.Tree.{leaf}
 use Rattle.chunks.specs.Footprint.{one, count, below}
-use Rattle.chunks.proofs.Footprint.{one_same, below_few}
+use Rattle.chunks.proofs.Footprint.{below_few}
 use Rattle.chunks.proofs.Spotting.{count_counting}
 use Rattle.slots.specs.declared.memory.Memory.{Memory}
 use Rattle.slots.specs.View.{next_of, Roomy}

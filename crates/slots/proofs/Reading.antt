@@ -1,19 +1,18 @@
 -- What is read off memory is what memory holds; and soundness has one proof at most, so that nothing of it is lost.
-use Rattle.std.proofs.Common.{◌≡◌, ℕ, zero, suc, ◌+◌, ◌<◌, ◌≤◌, max, List, [], ◌∷◌, map, length, get_or, Some, None, Option, sym, refl, ap, ◌∙◌, subst, arith}
+use Rattle.std.proofs.Common.{◌≡◌, ℕ, zero, suc, ◌<◌, ◌≤◌, List, [], ◌∷◌, map, length, get_or, Some, None, Option, sym, refl, ap, ◌∙◌, subst, arith}
 use mathlib.Core.HLevel.{→_set}
 use mathlib.Core.Logic.{∥∥₁_elim}
 use native.Mathlib.Nat.{ℕ_set}
 use native.Mathlib.Bridge.{le_prop}
 use ghost.Sets.{retract_set}
-use Rattle.chunks.specs.Tree.{Tree, leaf, node, root, slots, height, Level}
-use Rattle.chunks.specs.Footprint.{uses, count, below}
+use Rattle.chunks.specs.Tree.{Tree, leaf, node, root, height}
 use Rattle.chunks.proofs.Footprint.{few_below}
 use Rattle.slots.specs.declared.memory.Memory.{Memory}
 use Rattle.slots.specs.declared.slot.Slot.{Slot}
 use Rattle.slots.specs.declared.slot.Extent.{Extent}
-use Rattle.slots.specs.Claim.{Claim, nothing}
+use Rattle.slots.specs.Claim.{nothing}
 use Rattle.slots.specs.View.{next_of, height_at, Roomy}
-use Rattle.slots.specs.Holds.{Placed, Here, Holds}
+use Rattle.slots.specs.Holds.{Here, Holds}
 use Rattle.slots.specs.Free.{Stack}
 use Rattle.slots.specs.Replace.{Whole}
 use Rattle.slots.specs.Sound.{left_of, right_of, read, read_free, tree_of, free_of, Sound}

@@ -1,5 +1,5 @@
 -- What taking a run of chunks out and putting others in rests on.
-use Rattle.std.proofs.Common.{◌≡◌, ℕ, suc, ◌+◌, ◌-◌, ◌<◌, ◌≤◌, List, [], ◌∷◌, ◌++◌, map, length, take, drop, Option, sym, refl, ap, ◌∙◌, subst, append_assoc, arith}
+use Rattle.std.proofs.Common.{◌≡◌, ℕ, ◌+◌, ◌-◌, ◌≤◌, List, ◌++◌, map, length, take, drop, Option, sym, ap, ◌∙◌, subst, append_assoc, arith}
 use Rattle.std.proofs.lemmas.List.{take-map, drop-map, drop-drop, map-append, take-append-drop}
 use Rattle.measure.specs.Measure.{Measure}
 use Rattle.chunks.specs.Tree.{Tree, root, slots}
@@ -9,7 +9,7 @@ use Rattle.chunks.proofs.Cut.{cut_part}
 use Rattle.chunks.proofs.Footprint.{count_append, below_few}
 use Rattle.slots.specs.declared.memory.Memory.{Memory}
 use Rattle.slots.specs.Claim.{Claim, nothing, Fair}
-use Rattle.slots.specs.View.{chunk_of, chunks_of, Roomy}
+use Rattle.slots.specs.View.{chunk_of, chunks_of}
 use Rattle.slots.specs.Holds.{Holds}
 use Rattle.slots.specs.Frame.{Frame}
 use Rattle.slots.specs.Split.{Held, Apart, Halved, Appended}

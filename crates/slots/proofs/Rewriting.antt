@@ -1,16 +1,15 @@
 -- What writing chunks over others rests on: the tree is as it was, and what its slots say is right again.
-use Rattle.std.proofs.Common.{◌≡◌, ℕ, suc, ◌+◌, ◌-◌, ◌<◌, ◌≤◌, ◌⊎◌, List, [], ◌∷◌, ◌++◌, map, length, get_or, Option, sym, refl, ap, ◌∙◌, subst, ⊎_elim, arith}
+use Rattle.std.proofs.Common.{◌≡◌, ℕ, suc, ◌+◌, ◌-◌, ◌<◌, ◌≤◌, ◌⊎◌, List, ◌∷◌, ◌++◌, length, Option, sym, refl, ap, ◌∙◌, subst, ⊎_elim, arith}
 use Rattle.std.proofs.lemmas.List.{length-map}
 use Rattle.measure.specs.Measure.{Measure, reading}
 use Rattle.chunks.specs.declared.side.Side.TheVariants.{Left}
-use Rattle.chunks.specs.Tree.{Tree, leaf, node, root, slots, Level}
+use Rattle.chunks.specs.Tree.{Tree, node, root, slots, Level}
 use Rattle.chunks.specs.Footprint.{one, uses, below}
-use Rattle.chunks.specs.Cut.{Chunk, chunk_at, needed}
+use Rattle.chunks.specs.Cut.{Chunk, chunk_at}
 use Rattle.chunks.specs.Over.{renewed, over}
 use Rattle.chunks.proofs.Footprint.{one_same, uses_node, below_few}
 use Rattle.chunks.proofs.Overwriting.{renewed_in, renewed_before, renewed_behind, over_append, over_before, over_behind}
 use Rattle.slots.specs.declared.memory.Memory.{Memory}
-use Rattle.slots.specs.declared.slot.Slot.{Slot}
 use Rattle.slots.specs.Claim.{Claim, nothing, Fair}
 use Rattle.slots.specs.View.{size_of, chunk_of, chunks_of, Roomy}
 use Rattle.slots.specs.Holds.{Holds, Owned, Ready}

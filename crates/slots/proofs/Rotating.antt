@@ -1,5 +1,5 @@
 -- A tree that leans is put right: once, with its top kept, or twice, with its inner tree's top on top.
-use Rattle.std.proofs.Common.{◌≡◌, ℕ, suc, ◌+◌, ◌<◌, ◌≤◌, max, Some, None, Option, sym, refl, ap, ◌∙◌, subst, arith}
+use Rattle.std.proofs.Common.{◌≡◌, ℕ, suc, ◌<◌, ◌≤◌, Some, Option, sym, ap, ◌∙◌, subst, arith}
 use Rattle.measure.specs.Measure.{Measure}
 use Rattle.chunks.specs.declared.side.Side.{Side}
 use Rattle.chunks.specs.Tree.{Tree, root, height, Level}

@@ -1,5 +1,5 @@
 -- What a claim says of a join, by the laws of the meter.
-use Rattle.std.proofs.Common.{◌≡◌, ℕ, List, ◌++◌, sym, ap, ◌∙◌, subst}
+use Rattle.std.proofs.Common.{◌≡◌, ℕ, List, ◌++◌, sym, ap, ◌∙◌}
 use Rattle.measure.specs.Measure.{Measure, reading, Lawful}
 use Rattle.measure.proofs.Measure.{reading_append}
 use Rattle.slots.specs.Claim.{Claim, nothing, kept, Says, Fair}

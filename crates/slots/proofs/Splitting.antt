@@ -2,16 +2,15 @@
 use Rattle.std.proofs.Common.{◌≡◌, ℕ, zero, suc, ◌+◌, ◌-◌, ◌<◌, ◌≤◌, List, [], ◌∷◌, ◌++◌, length, take, drop, Some, None, Option, sym, refl, ap, ◌∙◌, subst, zero-add, arith}
 use Rattle.std.proofs.lemmas.List.{take-append-drop, take-append-le, drop-append-le, length-append, length-drop, append_assoc, nil_from_length}
 use Rattle.measure.specs.Measure.{Measure}
-use Rattle.chunks.specs.declared.side.Side.TheVariants.{Left, Right}
+use Rattle.chunks.specs.declared.side.Side.TheVariants.{Left}
 use Rattle.chunks.specs.Tree.{Tree, leaf, node, root, slots}
 use Rattle.chunks.specs.Footprint.{one, count, uses, below}
 use Rattle.chunks.proofs.Footprint.{count_append, uses_node, below_few}
 use Rattle.chunks.proofs.Sides.{leaf_if_none, opened}
 use Rattle.slots.specs.declared.memory.Memory.{Memory}
-use Rattle.slots.specs.Claim.{Claim, nothing, Fair}
-use Rattle.slots.specs.View.{size_of, Roomy}
+use Rattle.slots.specs.Claim.{Claim, nothing}
+use Rattle.slots.specs.View.{size_of}
 use Rattle.slots.specs.Holds.{Holds, Owned, Ready}
-use Rattle.slots.specs.Frame.{Frame}
 use Rattle.slots.specs.Join.{Joined}
 use Rattle.slots.specs.Split.{Held, Apart, Halved, Appended}
 use Rattle.slots.proofs.Frame.{frame_trans, frame_more, frame_none, size_same, roomy_same}

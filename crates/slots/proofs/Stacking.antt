@@ -1,13 +1,11 @@
 -- A free slot taken and written.
-use Rattle.std.proofs.Common.{◌≡◌, ℕ, suc, ◌+◌, ◌<◌, ◌≤◌, List, [], ◌∷◌, length, get_or, Some, None, Option, sym, refl, ap, ◌∙◌, subst, arith}
+use Rattle.std.proofs.Common.{◌≡◌, ℕ, List, ◌∷◌, length, get_or, Option, sym, ap, ◌∙◌, subst, arith}
 use Rattle.measure.specs.Measure.{Measure, reading}
-use Rattle.chunks.specs.Footprint.{one, count, below}
+use Rattle.chunks.specs.Footprint.{one}
 use Rattle.chunks.proofs.Footprint.{below_few}
 use Rattle.slots.specs.declared.memory.Memory.{Memory}
-use Rattle.slots.specs.declared.slot.Slot.{Slot}
 use Rattle.slots.specs.Claim.{Claim, nothing, kept, Says, Fair}
-use Rattle.slots.specs.View.{size_of, next_of, chunk_of, Roomy}
-use Rattle.slots.specs.Holds.{Owned}
+use Rattle.slots.specs.View.{size_of, next_of, chunk_of}
 use Rattle.slots.specs.Free.{Stack, Idle, Elsewhere, Written, Stored}
 use Rattle.slots.proofs.Elsewhere.{elsewhere_trans, elsewhere_more, elsewhere_stack, stack_elsewhere}
 

@@ -1,7 +1,7 @@
 -- The text of a tree, put together from its sides; how long it can be.
-use Rattle.std.proofs.Common.{◌≡◌, ℕ, suc, ◌+◌, ◌-◌, ◌*◌, ◌<◌, ◌≤◌, List, [], ◌∷◌, ◌++◌, map, length, get_or, take, drop, sym, ap, ◌∙◌, arith}
-use Rattle.std.proofs.lemmas.List.{map-append, length-append, length-take-le, length-drop, get_or-map}
-use Rattle.chunks.specs.Tree.{Tree, leaf, node, slots}
+use Rattle.std.proofs.Common.{◌≡◌, ℕ, ◌*◌, ◌<◌, ◌≤◌, ◌∷◌, ◌++◌, length, get_or, drop, sym, ap, ◌∙◌, arith}
+use Rattle.std.proofs.lemmas.List.{map-append, length-take-le, length-drop, get_or-map}
+use Rattle.chunks.specs.Tree.{Tree, node, slots}
 use Rattle.chunks.specs.Cut.{joined}
 use Rattle.chunks.proofs.Joined.{joined_append}
 use Rattle.slots.specs.declared.memory.Memory.{Memory}

@@ -1,20 +1,19 @@
 -- What joining trees by relinking rests on, seen from either side.
-use Rattle.std.proofs.Common.{◌≡◌, ℕ, suc, ◌+◌, ◌<◌, ◌≤◌, max, List, [], ◌∷◌, ◌++◌, length, get_or, Some, None, Option, sym, refl, ap, ◌∙◌, subst, arith}
+use Rattle.std.proofs.Common.{◌≡◌, ℕ, suc, ◌+◌, ◌<◌, ◌≤◌, Some, Option, sym, ap, ◌∙◌, subst, arith}
 use Rattle.measure.specs.Measure.{Measure}
 use Rattle.chunks.specs.declared.side.Side.{Side}
 use Rattle.chunks.specs.declared.side.Side.TheVariants.{Left, Right}
-use Rattle.chunks.specs.Tree.{Tree, leaf, node, slots, root, height, Level}
+use Rattle.chunks.specs.Tree.{Tree, slots, root, height, Level}
 use Rattle.chunks.specs.Footprint.{one, uses, below, count}
 use Rattle.chunks.specs.Sides.{other, around, run}
-use Rattle.chunks.proofs.Footprint.{one_same, below_few}
+use Rattle.chunks.proofs.Footprint.{below_few}
 use Rattle.chunks.proofs.Sides.{slots_around, height_around, uses_around, count_run, run_turned, run_assoc, around_turned, root_around}
 use Rattle.slots.specs.declared.memory.Memory.{Memory}
-use Rattle.slots.specs.declared.slot.Slot.{Slot}
-use Rattle.slots.specs.Claim.{Claim, nothing, Says, Fair}
-use Rattle.slots.specs.View.{size_of, Roomy}
-use Rattle.slots.specs.Holds.{Here, Holds, Owned, Ready}
+use Rattle.slots.specs.Claim.{Claim, nothing, Fair}
+use Rattle.slots.specs.View.{size_of}
+use Rattle.slots.specs.Holds.{Holds, Owned, Ready}
 use Rattle.slots.specs.Frame.{Frame}
-use Rattle.slots.specs.Join.{Keeps, Linked, Joined, Settled}
+use Rattle.slots.specs.Join.{Linked, Joined}
 use Rattle.slots.proofs.Frame.{frame_trans, frame_more, size_same, roomy_same}
 use Rattle.slots.proofs.Holds.{holds_frame, owned_frame}
 

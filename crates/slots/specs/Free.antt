@@ -1,5 +1,5 @@
 -- The free slots, as a stack inside the slots: each one leads to the next.
-use Rattle.std.specs.Prelude.{◌≡◌, ℕ, ◌+◌, ◌≤◌, List, [], ◌∷◌, ◌++◌, map, length, get_or, take, drop, Some, None, Option, slice_index_or}
+use Rattle.std.specs.Prelude.{◌≡◌, ℕ, ◌≤◌, List, [], ◌∷◌, length, get_or, take, drop, Some, None, Option, slice_index_or}
 use Rattle.measure.specs.Measure.{Measure}
 use Rattle.chunks.specs.Tree.{Tree, leaf, node}
 use Rattle.chunks.specs.Footprint.{one, count, uses, below}

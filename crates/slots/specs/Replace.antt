@@ -1,5 +1,5 @@
 -- A whole memory: one tree, and all other usable slots free. A run of its chunks taken out, and others put in.
-use Rattle.std.specs.Prelude.{◌≡◌, ℕ, ◌+◌, ◌≤◌, List, ◌++◌, length, take, drop, Option}
+use Rattle.std.specs.Prelude.{◌≡◌, ℕ, ◌+◌, List, ◌++◌, length, take, drop, Option}
 use Rattle.measure.specs.Measure.{Measure}
 use Rattle.chunks.specs.Tree.{Tree, root}
 use Rattle.chunks.specs.Footprint.{uses, count, below}

@@ -1,5 +1,5 @@
 -- Chunks of a tree written over in their slots, the tree being as it was.
-use Rattle.std.specs.Prelude.{◌≡◌, ℕ, ◌≤◌, List, length}
+use Rattle.std.specs.Prelude.{◌≡◌, ℕ, ◌≤◌, List}
 use Rattle.measure.specs.Measure.{Measure}
 use Rattle.chunks.specs.Tree.{Tree}
 use Rattle.chunks.specs.Footprint.{one, uses}

@@ -1,9 +1,8 @@
 -- What lent memory says of a slot: the length of its chunk, its bytes in the store, the next free slot.
-use Rattle.std.specs.Prelude.{ℕ, ◌*◌, ◌≤◌, List, [], ◌∷◌, ◌++◌, map, length, take, drop, Some, None, Option, slice_index, slice_index_or}
+use Rattle.std.specs.Prelude.{ℕ, ◌*◌, ◌≤◌, List, map, length, take, drop, Some, None, Option, slice_index, slice_index_or}
 use Rattle.chunks.specs.Tree.{Tree, slots, height}
 use Rattle.chunks.specs.Cut.{joined}
 use Rattle.slots.specs.declared.memory.Memory.{Memory}
-use Rattle.slots.specs.declared.slot.Slot.{Slot}
 use Rattle.slots.specs.declared.slot.Extent.{Extent}
 
 module _ {R : Type 0} (m : Memory R) where

@@ -1,7 +1,7 @@
-use Rattle.std.proofs.Common.{◌≡◌, suc, ◌<◌, ◌≤◌, Some, sym, ap, ◌∙◌, subst, arith}
+use Rattle.std.proofs.Common.{suc, ◌<◌, sym, subst, arith}
 use Rattle.chunks.specs.declared.side.Side.{Side}
-use Rattle.chunks.specs.Tree.{Tree, height, Level}
-use Rattle.chunks.specs.Sides.{other, around}
+use Rattle.chunks.specs.Tree.{height, Level}
+use Rattle.chunks.specs.Sides.{around}
 use Rattle.chunks.proofs.Sides.{root_around}
 use Rattle.slots.specs.Join.{Joined}
 use Rattle.slots.proofs.Turning.{ready_turned, joined_turned, joined_linked}

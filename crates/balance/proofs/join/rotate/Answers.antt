@@ -1,5 +1,5 @@
-use Rattle.std.proofs.Common.{◌≡◌, Some, sym, ap, ◌∙◌, subst, arith}
-use Rattle.chunks.specs.Tree.{Tree, root}
+use Rattle.std.proofs.Common.{sym, ap, ◌∙◌, subst, arith}
+use Rattle.chunks.specs.Tree.{Tree}
 use Rattle.chunks.specs.Sides.{around}
 use Rattle.chunks.proofs.Sides.{root_around}
 use Rattle.slots.specs.Join.{Joined}

@@ -1,6 +1,3 @@
-use Rattle.std.proofs.Common.{◌≡◌}
-use Rattle.chunks.specs.Tree.{Tree, root}
-use Rattle.chunks.specs.Sides.{around}
 use Rattle.slots.specs.Claim.{nothing}
 use Rattle.slots.proofs.Turning.{parts, holds_turned}
 use Rattle.slots.proofs.Rotating.{twice_first, twice_second, twice_third, twice_joined}

@@ -1,6 +1,4 @@
-use Rattle.std.proofs.Common.{◌≡◌, refl, arith}
-use Rattle.chunks.specs.Tree.{Tree}
-use Rattle.slots.specs.Holds.{Ready}
+use Rattle.std.proofs.Common.{refl, arith}
 use Rattle.slots.specs.View.{size_of}
 use Rattle.slots.proofs.Text.{size_read}
 use Rattle.slots.proofs.Linking.{over_fits, extent_over}

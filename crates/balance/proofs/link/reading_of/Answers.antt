@@ -1,8 +1,6 @@
-use Rattle.std.proofs.Common.{◌≡◌, List, ◌++◌, get_or, sym, refl, ap, ◌∙◌, append_assoc, append-nil}
-use Rattle.chunks.specs.Tree.{Tree}
-use Rattle.slots.specs.Claim.{Claim, Says, Fair}
+use Rattle.std.proofs.Common.{◌≡◌, ◌++◌, get_or, sym, refl, ap, ◌∙◌, append_assoc, append-nil}
+use Rattle.slots.specs.Claim.{Says}
 use Rattle.slots.specs.View.{chunk_of, text_of}
-use Rattle.slots.specs.Holds.{Holds, Owned, Ready}
 use Rattle.slots.proofs.Says.{says_join, says_same}
 use Rattle.slots.proofs.Text.{text_node}
 use Rattle.slots.proofs.Linking.{summed_at, none_text}

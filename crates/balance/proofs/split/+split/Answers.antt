@@ -1,9 +1,9 @@
-use Rattle.std.proofs.Common.{◌≡◌, ◌-◌, ◌<◌, ◌≤◌, length, Some, None, sym, refl, ap, ◌∙◌, subst, arith}
+use Rattle.std.proofs.Common.{◌-◌, ◌<◌, ◌≤◌, length, sym, refl, ap, ◌∙◌, subst, arith}
 use Rattle.chunks.specs.declared.side.Side.TheVariants.{Left, Right}
-use Rattle.chunks.specs.Tree.{Tree, leaf, node, root, slots}
+use Rattle.chunks.specs.Tree.{Tree, leaf, slots}
 use Rattle.chunks.proofs.Sides.{leaf_if_none}
 use Rattle.slots.specs.declared.slot.Extent.{Extent}
-use Rattle.slots.specs.Split.{Held, Halved}
+use Rattle.slots.specs.Split.{Halved}
 use Rattle.slots.proofs.Rotating.{seen}
 use Rattle.slots.proofs.Joining.{height_held, node_higher}
 use Rattle.slots.proofs.Splitting.{held_left, held_right, left_ready, left_halved, right_ready, right_halved, none_halved, held_open}

@@ -1,4 +1,4 @@
-use Rattle.std.proofs.Common.{◌≡◌, suc, ◌-◌, length, sym, refl, ap, ◌∙◌, arith}
+use Rattle.std.proofs.Common.{◌≡◌, suc, ◌-◌, length, sym, ap, ◌∙◌, arith}
 use Rattle.chunks.specs.Tree.{slots}
 use Rattle.slots.specs.declared.slot.Extent.{Extent}
 use Rattle.slots.proofs.Splitting.{held_first, append_none, last_some, append_ready, append_joined}

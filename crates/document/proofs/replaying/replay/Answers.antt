@@ -1,10 +1,9 @@
-use Rattle.std.proofs.Common.{◌≡◌, ℕ, ◌+◌, ◌<◌, List, [], ◌∷◌, ◌++◌, length, get_or, take, drop, set, sym, refl, ap, ◌∙◌, subst, arith}
+use Rattle.std.proofs.Common.{◌≡◌, ◌+◌, ◌<◌, List, length, take, drop, set, sym, refl, ap, ◌∙◌, subst, arith}
 use Rattle.std.proofs.lemmas.List.{take_more, take_more_set, drop-set-lt, drop-drop}
 use Rattle.tree.specs.Public.{usable_of}
 use Rattle.editing.specs.Content.{document_measure}
 use Rattle.document.specs.declared.call.Call.TheVariants.{Size}
 use Rattle.document.specs.declared.call.Answer.{Answer}
-use Rattle.document.specs.Log.{Snapshot, Entry}
 use Rattle.document.proofs.Replays.{Going, begins, goes_on, replayed}
 use Rattle.document.proofs.replaying.replay.Goals as goal
 

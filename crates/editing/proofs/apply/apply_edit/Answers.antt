@@ -1,8 +1,6 @@
-use Rattle.std.proofs.Common.{◌≡◌, ◌+◌, ◌-◌, length, drop, None, sym, refl, ap, ◌∙◌, subst, arith}
+use Rattle.std.proofs.Common.{◌+◌, ◌-◌, length, sym, ap, ◌∙◌, arith}
 use Rattle.std.proofs.lemmas.List.{length-drop}
 use Rattle.automaton.specs.Walk.{walk}
-use Rattle.model.specs.declared.change.Change.{Change}
-use Rattle.tree.specs.Public.{chunks_now}
 use Rattle.editing.specs.Content.{text_in}
 use Rattle.editing.proofs.Planning.{answered_ok}
 use Rattle.editing.proofs.Applying.{forward, inside, few_bytes, text_after, text_long, applied, end_told}

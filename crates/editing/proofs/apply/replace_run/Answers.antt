@@ -1,9 +1,8 @@
-use Rattle.std.proofs.Common.{◌≡◌, ◌-◌, true, cond, length, take, sym, ap, ◌∙◌, arith}
+use Rattle.std.proofs.Common.{◌≡◌, ◌-◌, take, ap, ◌∙◌, arith}
 use Rattle.std.proofs.lemmas.Bool.{cond-true}
 use Rattle.chunks.specs.Cut.{cut, replaced}
 use Rattle.model.specs.Edit.{middle}
 use Rattle.tree.specs.Public.{chunks_now}
-use Rattle.tree.specs.declared.lent.Lent.{Lent}
 use Rattle.editing.specs.Content.{text_in}
 use Rattle.editing.proofs.Applying.{covers, forward, can_replace, replaced_is}
 use Rattle.editing.proofs.apply.replace_run.Goals as goal

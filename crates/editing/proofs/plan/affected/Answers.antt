@@ -1,4 +1,4 @@
-use Rattle.std.proofs.Common.{◌≡◌, sym, subst, arith, rules}
+use Rattle.std.proofs.Common.{sym, subst, rules}
 use Rattle.tree.specs.Public.{chunks_now}
 use Rattle.model.proofs.Runs.{Covers, covers_touched}
 use Rattle.model.specs.Edit.{affected}

@@ -1,7 +1,5 @@
-use Rattle.std.proofs.Common.{◌≡◌, ℕ, ◌+◌, ◌-◌, ◌≤◌, List, length, None, Ok, Err, sym, ap, ◌∙◌, subst, arith}
+use Rattle.std.proofs.Common.{◌≡◌, ◌+◌, ◌-◌, ◌≤◌, length, None, Ok, Err, sym, ap, ◌∙◌, subst, arith}
 use Rattle.model.specs.Edit.{edited_chunks, affected, middle_length}
-use Rattle.model.specs.declared.run.Run.{Run}
-use Rattle.model.specs.declared.refusal.Refusal.{Refusal}
 use Rattle.model.specs.declared.refusal.Refusal.TheVariants.{TooManyChunks}
 use Rattle.model.specs.Calls.{answered}
 use Rattle.model.proofs.Runs.{Covers, covers_affected, short_middle}

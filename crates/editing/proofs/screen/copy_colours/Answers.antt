@@ -1,4 +1,4 @@
-use Rattle.std.proofs.Common.{◌≡◌, length, None, sym}
+use Rattle.std.proofs.Common.{length, None, sym}
 use Rattle.editing.specs.Content.{text_in, model_in}
 use Rattle.editing.proofs.Planning.{answered_ok}
 use Rattle.editing.proofs.Showing.{range_passed, coloured_front}

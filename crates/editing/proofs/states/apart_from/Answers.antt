@@ -1,4 +1,4 @@
-use Rattle.std.proofs.Common.{◌≡◌, drop, ap, ◌∙◌}
+use Rattle.std.proofs.Common.{drop, ap, ◌∙◌}
 use Rattle.search.specs.declared.stop.Stop.{Stop}
 use Rattle.locate.specs.declared.two_states.TwoStates.{TwoStates}
 use Rattle.editing.specs.Content.{text_in}

@@ -1,4 +1,4 @@
-use Rattle.std.proofs.Common.{◌≡◌, ap, ◌∙◌}
+use Rattle.std.proofs.Common.{ap, ◌∙◌}
 use Rattle.search.specs.declared.stop.Stop.{Stop}
 use Rattle.locate.specs.declared.walked.Walked.{Walked}
 use Rattle.locate.proofs.Walking.{walk_comes_to_place}

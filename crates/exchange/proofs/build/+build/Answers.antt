@@ -1,6 +1,6 @@
-use Rattle.std.proofs.Common.{◌≡◌, ℕ, suc, ◌+◌, ◌-◌, ◌/◌, ◌<◌, ◌≤◌, List, ◌∷◌, ◌++◌, length, get_or, drop, sym, refl, ap, ◌∙◌, subst, arith}
-use Rattle.chunks.specs.Tree.{Tree, leaf}
-use Rattle.chunks.specs.Cut.{Chunk, part, chunk_at}
+use Rattle.std.proofs.Common.{◌≡◌, ℕ, suc, ◌+◌, ◌-◌, ◌/◌, ◌≤◌, List, ◌∷◌, ◌++◌, length, sym, refl, subst, arith}
+use Rattle.chunks.specs.Tree.{leaf}
+use Rattle.chunks.specs.Cut.{Chunk, part}
 use Rattle.chunks.proofs.Cut.{chunk_fits}
 use Rattle.chunks.specs.declared.side.Side.TheVariants.{Left}
 use Rattle.slots.specs.Holds.{Ready}

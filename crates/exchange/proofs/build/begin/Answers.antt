@@ -1,4 +1,4 @@
-use Rattle.std.proofs.Common.{◌≡◌, ◌+◌, ◌*◌, ◌/◌, refl, ap, arith}
+use Rattle.std.proofs.Common.{◌+◌, ◌*◌, ◌/◌, ap, arith}
 use Rattle.chunks.specs.Cut.{begin}
 use Rattle.chunks.proofs.Cut.{begin_within}
 use Rattle.exchange.proofs.build.begin.Goals as goal

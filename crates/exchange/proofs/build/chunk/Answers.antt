@@ -1,4 +1,4 @@
-use Rattle.std.proofs.Common.{◌≡◌, suc, ◌+◌, ◌-◌, ◌<◌, ◌≤◌, length, take, drop, sym, ap, ◌∙◌, add-one, arith, rules}
+use Rattle.std.proofs.Common.{◌≡◌, ◌-◌, ◌≤◌, length, take, drop, ap, ◌∙◌, add-one, arith, rules}
 use Rattle.chunks.specs.Cut.{begin, share}
 use Rattle.chunks.proofs.Cut.{begin_more, chunk_within}
 use Rattle.exchange.proofs.build.chunk.Goals as goal

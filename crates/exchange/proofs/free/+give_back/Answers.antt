@@ -1,7 +1,6 @@
-use Rattle.std.proofs.Common.{◌≡◌, sym, refl, ap, ◌∙◌, subst, arith}
+use Rattle.std.proofs.Common.{sym, refl, ◌∙◌, subst, arith}
 use Rattle.chunks.specs.declared.side.Side.TheVariants.{Left, Right}
-use Rattle.chunks.specs.Tree.{Tree, node, root}
-use Rattle.slots.specs.Split.{Held}
+use Rattle.chunks.specs.Tree.{Tree}
 use Rattle.slots.proofs.Rotating.{seen}
 use Rattle.slots.proofs.Joining.{height_held, node_higher}
 use Rattle.slots.proofs.Splitting.{held_left, held_open}

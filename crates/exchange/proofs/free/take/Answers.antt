@@ -1,4 +1,4 @@
-use Rattle.std.proofs.Common.{◌≡◌, ◌<◌, sym, subst}
+use Rattle.std.proofs.Common.{◌≡◌, ◌<◌, subst}
 use Rattle.chunks.proofs.Footprint.{first_below}
 use Rattle.exchange.proofs.free.take.Goals as goal
 

@@ -1,4 +1,4 @@
-use Rattle.std.proofs.Common.{◌≡◌, sym, refl, ap, ◌∙◌, subst, arith}
+use Rattle.std.proofs.Common.{sym, ap, ◌∙◌, subst, arith}
 use Rattle.slots.proofs.Elsewhere.{roomy_elsewhere}
 use Rattle.slots.specs.Claim.{kept}
 use Rattle.slots.specs.View.{chunks_of}

@@ -1,4 +1,4 @@
-use Rattle.std.proofs.Common.{◌≡◌, ℕ, ◌≤◌, List, length, subst, arith}
+use Rattle.std.proofs.Common.{◌≡◌, length, subst, arith}
 use Rattle.chunks.specs.Cut.{needed, part}
 use Rattle.slots.specs.Free.{Built}
 use Rattle.slots.proofs.Replacing.{parted_idle, front_apart, back_apart, inserted_whole, filled}

@@ -1,6 +1,5 @@
-use Rattle.std.proofs.Common.{◌≡◌, ℕ, ◌<◌, Option, sym, refl, ap, ◌∙◌, subst, arith}
+use Rattle.std.proofs.Common.{arith}
 use Rattle.chunks.proofs.Footprint.{first_below}
-use Rattle.slots.specs.Free.{Stored, Stack}
 use Rattle.slots.proofs.Elsewhere.{elsewhere_stack, roomy_elsewhere}
 use Rattle.slots.proofs.Stacking.{stored}
 use Rattle.exchange.proofs.store.store_chunk.Goals as goal

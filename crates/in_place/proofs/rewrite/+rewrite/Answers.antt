@@ -1,6 +1,6 @@
-use Rattle.std.proofs.Common.{◌≡◌, ◌+◌, ◌<◌, ◌≤◌, ◌⊎◌, ◌∷◌, length, sym, refl, ap, ◌∙◌, subst, arith}
+use Rattle.std.proofs.Common.{◌+◌, ◌<◌, ◌≤◌, ◌⊎◌, ◌∷◌, length, sym, refl, ap, ◌∙◌, subst, arith}
 use Rattle.std.proofs.lemmas.List.{length-append}
-use Rattle.chunks.specs.Tree.{Tree, node, root, slots}
+use Rattle.chunks.specs.Tree.{Tree, slots}
 use Rattle.slots.specs.declared.slot.Extent.{Extent}
 use Rattle.slots.specs.Rewrite.{Rewritten}
 use Rattle.slots.proofs.Joining.{height_held, node_higher}

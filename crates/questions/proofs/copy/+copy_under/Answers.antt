@@ -1,10 +1,8 @@
-use Rattle.std.proofs.Common.{◌≡◌, ℕ, ◌+◌, ◌-◌, ◌≤◌, List, [], ◌++◌, length, sym, refl, ap, ◌∙◌, subst, ⊎_elim, arith}
+use Rattle.std.proofs.Common.{◌≡◌, ℕ, List, [], length, sym, ap, ◌∙◌, subst, ⊎_elim, arith}
 use Rattle.std.specs.List.{between}
-use Rattle.chunks.specs.Tree.{Tree, node, root, leaf}
 use Rattle.chunks.proofs.Sides.{leaf_if_none}
 use Rattle.slots.specs.declared.slot.Extent.{Extent}
 use Rattle.slots.specs.View.{chunk_of, text_of}
-use Rattle.slots.specs.Split.{Held}
 use Rattle.slots.specs.Copy.{Copied}
 use Rattle.slots.proofs.Joining.{height_held, node_higher}
 use Rattle.slots.proofs.Splitting.{sides, held_left, held_right}

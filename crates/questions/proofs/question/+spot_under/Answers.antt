@@ -1,9 +1,7 @@
-use Rattle.std.proofs.Common.{◌≡◌, sym, refl, ap, ◌∙◌, subst, arith}
-use Rattle.chunks.specs.declared.side.Side.TheVariants.{Left, Right}
-use Rattle.chunks.specs.Tree.{Tree, node, root}
+use Rattle.std.proofs.Common.{sym, ap, ◌∙◌, arith}
+use Rattle.chunks.specs.Tree.{Tree}
 use Rattle.chunks.specs.Spot.{spot_in}
 use Rattle.slots.specs.View.{chunks_of}
-use Rattle.slots.specs.Split.{Held}
 use Rattle.slots.proofs.Joining.{height_held, node_higher}
 use Rattle.slots.proofs.Splitting.{sides, held_left, held_right}
 use Rattle.slots.proofs.Spots.{spot_on_left, spot_in_own, spot_on_right, spot_fits}

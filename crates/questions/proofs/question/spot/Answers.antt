@@ -1,4 +1,4 @@
-use Rattle.std.proofs.Common.{◌≡◌, ap, arith}
+use Rattle.std.proofs.Common.{ap, arith}
 use Rattle.std.proofs.lemmas.List.{length-map}
 use Rattle.chunks.specs.declared.spot.Spot.{Spot}
 use Rattle.chunks.specs.Tree.{slots}

@@ -1,4 +1,4 @@
-use Rattle.std.proofs.Common.{◌≡◌, ◌*◌, min, drop, sym, ap, ◌∙◌, arith}
+use Rattle.std.proofs.Common.{◌≡◌, ◌*◌, min, drop, sym, ap, ◌∙◌}
 use Rattle.std.specs.List.{between}
 use Rattle.slots.specs.View.{size_of}
 use Rattle.slots.proofs.Ranges.{between_clipped, between_from}

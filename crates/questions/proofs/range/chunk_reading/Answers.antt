@@ -1,4 +1,4 @@
-use Rattle.std.proofs.Common.{◌≡◌, sym, ap, ◌∙◌, arith}
+use Rattle.std.proofs.Common.{sym, ap, ◌∙◌, arith}
 use Rattle.std.specs.List.{between}
 use Rattle.measure.specs.Measure.{reading}
 use Rattle.slots.specs.View.{chunk_of}

@@ -1,4 +1,4 @@
-use Rattle.std.proofs.Common.{◌≡◌, ◌+◌, ◌<◌, ◌++◌, length, get_or, drop, vec_items, sym, ap, ◌∙◌, append_assoc, arith}
+use Rattle.std.proofs.Common.{◌+◌, ◌<◌, ◌++◌, length, get_or, drop, vec_items, sym, ap, ◌∙◌, append_assoc, arith}
 use Rattle.report.specs.Rendered.{piece, next_shown, rendered_from}
 use Rattle.report.proofs.Pieces.{rendered_more, rendered_all}
 use Rattle.report.proofs.render.render.Goals as goal

@@ -1,4 +1,4 @@
-use Rattle.std.proofs.Common.{◌≡◌, ◌-◌, ◌<◌, length, get_or, take, drop, Some, None, sym, ap, ◌∙◌, arith}
+use Rattle.std.proofs.Common.{◌-◌, ◌<◌, length, take, drop, Some, None, sym, ap, ◌∙◌, arith}
 use Rattle.search.specs.Backwards.{back_stop}
 use Rattle.search.proofs.Backwards.{back_none, back_stops, back_over, back_less}
 use Rattle.seek.proofs.seek_bytes_back.+seek_bytes_back.Goals as goal

@@ -1,4 +1,4 @@
-use Rattle.std.proofs.Common.{◌≡◌, ◌<◌, get_or, refl, ap, ◌∙◌, arith}
+use Rattle.std.proofs.Common.{◌≡◌, ◌<◌, get_or, ap, ◌∙◌, arith}
 use Rattle.measure.specs.Walk.{still, entry_at, join_entries, onward, through}
 use Rattle.measure.proofs.Rows.{filled_none, filled_more, filled_all, read_entry, read_onward}
 use Rattle.walks.proofs.walk_meter.join_rows.Goals as goal

@@ -1,4 +1,4 @@
-use Rattle.std.proofs.Common.{◌≡◌, true, cond, [], sym, refl, ap, ◌∙◌}
+use Rattle.std.proofs.Common.{◌≡◌, true, [], sym, ap, ◌∙◌}
 use Rattle.std.proofs.lemmas.Bool.{cond-true}
 use Rattle.tree.specs.declared.lent.Lent.{Lent}
 use Rattle.tree.specs.Public.{chunks_now, usable_of, lent_to, preparable}

@@ -1,5 +1,5 @@
-use Rattle.std.proofs.Common.{◌≡◌, ℕ, ◌+◌, ◌-◌, List, Some, sym, ap, ◌∙◌, arith}
-use Rattle.measure.specs.Place.{line_ends, units}
+use Rattle.std.proofs.Common.{◌≡◌, ◌+◌, ◌-◌, Some, sym, ap, ◌∙◌, arith}
+use Rattle.measure.specs.Place.{units}
 use Rattle.locate.specs.InLine.{lined}
 use Rattle.locate.proofs.Columns.{base, base_first, base_later, passes_lines, passes_units, told}
 use Rattle.locate.proofs.in_line.InLineForward.pass.Goals as goal

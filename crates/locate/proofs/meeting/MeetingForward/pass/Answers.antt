@@ -1,4 +1,4 @@
-use Rattle.std.proofs.Common.{◌≡◌, get_or, Some, sym, ap, ◌∙◌}
+use Rattle.std.proofs.Common.{get_or, Some, sym, ap, ◌∙◌}
 use Rattle.automaton.specs.Walk.{walk}
 use Rattle.locate.specs.Meeting.{two_states}
 use Rattle.measure.specs.Walk.{still}

@@ -1,4 +1,4 @@
-use Rattle.std.proofs.Common.{◌≡◌, ap, ◌∙◌}
+use Rattle.std.proofs.Common.{ap, ◌∙◌}
 use Rattle.measure.proofs.Pair.{pair_reading}
 use Rattle.measure.specs.declared.pair_reading.PairReading.{PairReading}
 use Rattle.locate.proofs.sides.OnFirstForward.pass.Goals as goal

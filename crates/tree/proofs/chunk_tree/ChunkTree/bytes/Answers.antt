@@ -1,4 +1,4 @@
-use Rattle.std.proofs.Common.{◌≡◌, ap, arith}
+use Rattle.std.proofs.Common.{ap, arith}
 use Rattle.chunks.specs.Tree.{slots}
 use Rattle.chunks.proofs.Footprint.{few_below}
 use Rattle.slots.specs.declared.slot.Extent.{Extent}

@@ -1,10 +1,7 @@
-use Rattle.std.proofs.Common.{◌≡◌, ◌+◌, ◌-◌, ◌≤◌, length, get_or, take, sym, refl, ap, ◌∙◌, arith}
+use Rattle.std.proofs.Common.{◌≡◌, ◌+◌, ◌-◌, get_or, take, ap, ◌∙◌, arith}
 use Rattle.std.proofs.lemmas.List.{length-take-le, take_all}
-use Rattle.automaton.specs.Bracket.{role}
-use Rattle.automaton.specs.Walk.{walk}
 use Rattle.automaton.proofs.Walk.{walk_more}
-use Rattle.automaton.specs.declared.role.Role.TheVariants.{Plain, Opening, Closing}
-use Rattle.measure.specs.Unmatched.{opens, closes, unmatched_closings, unmatched_openings}
+use Rattle.measure.specs.Unmatched.{opens, closes}
 use Rattle.measure.specs.Walk.{entry}
 use Rattle.measure.proofs.Unmatched.{unmatched_few, closings_more, openings_more}
 use Rattle.measure.proofs.Walk.{same_entry}

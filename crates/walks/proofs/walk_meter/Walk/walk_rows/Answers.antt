@@ -1,4 +1,4 @@
-use Rattle.std.proofs.Common.{◌≡◌, ◌<◌, length, get_or, sym, ap, ◌∙◌, arith}
+use Rattle.std.proofs.Common.{◌≡◌, ◌<◌, length, get_or, ap, ◌∙◌, arith}
 use Rattle.measure.specs.Walk.{still, entry}
 use Rattle.measure.proofs.Rows.{length_rows, get_d_rows, filled_none, filled_more, filled_all}
 use Rattle.measure.proofs.Walk.{walk_or_still}

@@ -1,4 +1,4 @@
-use Rattle.std.proofs.Common.{◌≡◌, ℕ, ◌-◌, ◌≤◌, min, ◌++◌, length, take, drop, Some, None, Option, sym, refl, ap, ◌∙◌, subst, arith}
+use Rattle.std.proofs.Common.{◌≡◌, ◌-◌, ◌≤◌, min, ◌++◌, length, take, drop, None, sym, refl, ap, ◌∙◌, subst, arith}
 use Rattle.std.specs.List.{between}
 use Rattle.std.proofs.lemmas.List.{length-take-le}
 use Rattle.std.proofs.lemmas.Result.{IfOk-weaker}
@@ -12,7 +12,7 @@ use Rattle.editing.specs.Content.{document_measure}
 use Rattle.document.specs.declared.call.Call.{Call}
 use Rattle.document.specs.declared.call.Answer.TheVariants.{Pass, Written}
 use Rattle.document.specs.Content.{model_of, text, Unchanged}
-use Rattle.document.specs.Log.{Snapshot, Entry, Obeys}
+use Rattle.document.specs.Log.{Obeys}
 use Rattle.document.proofs.Obeying.{reply, leaves, where_refused, painted_way, left_same, buffer_behind, cond_made, range_room}
 use Rattle.document.proofs.document.log.Document+Readings+X.carry_out.Goals as goal
 
