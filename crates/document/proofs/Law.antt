@@ -122,7 +122,7 @@ done_pending : {R : Type 0} (a : Automaton) (s : Snapshot R) (k : Call) → refu
 done_pending a s call.Size e p = p
 done_pending a s (call.Open states) e p =
     let known = openable (model_of s.document) states e in
-    opened_pending a (model_of s.document) s.screen (ap joined (none_usable s.document.tree.now known.not_opened)) p
+    opened_pending a (model_of s.document) s.screen (ap joined (none_usable s.document.tree known.not_opened)) p
 done_pending a s (call.Edit from to bytes) e p = edited_pending a (model_of s.document) s.screen from to bytes.now e p
 done_pending a s (call.Paint c) e p = painted_pending a (model_of s.document) s.screen c e p
 done_pending a s call.Close e p = p
@@ -173,7 +173,7 @@ shows_then a t screen (Some c) p e = let no : ◌≡◌ {A = ℕ} 0 1 = cc in ab
 
 pub stands_so : {R : Type 0} (a : Automaton) (μ : Measure R) (s : Snapshot R) → Pending a s → Keeps s.document μ → Stands a μ s
 stands_so a μ s p kept =
-    let tree = balanced_tree s.document.tree.now in
+    let tree = balanced_tree s.document.tree in
     record {
       screen_shows_text = shows_then a (text s.document) s.screen (model_of s.document).due p;
       slots_keep_readings = kept;
@@ -189,7 +189,7 @@ shown_new : (a : Automaton) (t screen : List ℕ) (due : Option Change) → due 
 shown_new a t screen due none e = subst (ShownSo a t screen) (sym none) (empty_shown a t screen e)
 
 pub new_pending : {R : Type 0} (a : Automaton) (s : Snapshot R) → New s → Pending a s
-new_pending a s new = shown_new a (text s.document) s.screen (model_of s.document).due new.no_due (ap joined (none_usable s.document.tree.now new.not_opened))
+new_pending a s new = shown_new a (text s.document) s.screen (model_of s.document).due new.no_due (ap joined (none_usable s.document.tree new.not_opened))
 
 -- Behind every lawful log.
 pub log_pending : {R : Type 0} (a : Automaton) (μ : Measure R) (first : Snapshot R) (log : List (Entry R)) → Follows a μ first log → Pending a (latest first log)

@@ -44,7 +44,7 @@ module _ {R : Type 0} (a : Automaton) (μ : Measure R) where
   begins s new = record {
     first = s;
     log = [];
-    follows = (new, stands_so a μ s (new_pending a s new) (kept_none s.document.tree.now new.not_opened μ));
+    follows = (new, stands_so a μ s (new_pending a s new) (kept_none s.document.tree new.not_opened μ));
     calls_are = refl;
     answers_are = refl;
     screen_before = refl;

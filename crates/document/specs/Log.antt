@@ -107,8 +107,8 @@ NamesItsEnd a before e = (c : Change) → e.answer ≡ answer.Due c → EndsFirs
 pub record Stands {R : Type 0} (a : Automaton) (μ : Measure R) (s : Snapshot R) : Type 0 where
   pub screen_shows_text : (model_of s.document).due ≡ None → ShowsText a (text s.document) s.screen
   pub slots_keep_readings : Keeps s.document μ
-  pub tree_is_balanced : Balanced (tree_in s.document.tree.now)
-  pub tree_is_low : height (tree_in s.document.tree.now) ≤ 16
+  pub tree_is_balanced : Balanced (tree_in s.document.tree)
+  pub tree_is_low : height (tree_in s.document.tree) ≤ 16
 
 -- A new document: no slot is usable, and no due stands.
 pub record New {R : Type 0} (s : Snapshot R) : Type 0 where

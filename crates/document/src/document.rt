@@ -11,8 +11,8 @@ pub mod log;
 pub mod untyped;
 
 #[derive(Drop)]
-pub struct Document<'t, 'a, R> {
-    tree: &'t mut ChunkTree<'a, R>,
+pub struct Document<'a, R> {
+    tree: ChunkTree<'a, R>,
     due: Option<Change>,
-    ghost fitting: { due_fits due (length (text_in tree.now)) ≡ true },
+    ghost fitting: { due_fits due (length (text_in tree)) ≡ true },
 }

@@ -9,7 +9,6 @@ use editing::Readings;
 use grammar::Grammar;
 use meter::Meter;
 use slots::slot::Slot;
-use tree::ChunkTree;
 use walks::DocumentMeter;
 
 // Carries out as many of the calls as there is room for answers, on a document made of the lent memory, and says how many that
@@ -28,8 +27,7 @@ pub fn replay<X: Copy, G: Grammar, H: Meter<Reading = X>>(
     ensures rest { drop result answers.new ≡ drop result answers.old }
     ensures law { Replayed (G.Grammar.meaning meter.now.first.grammar) (document_measure (G.Grammar.meaning meter.now.first.grammar) (H.Meter.scale meter.now.second.second)) screen.old buffer.old (take result calls.now) (take result answers.new) screen.new buffer.new }
 {
-    let mut tree = ChunkTree::new(slots, store, readings);
-    let mut document = Document::new(&mut tree);
+    let mut document = Document::new(slots, store, readings);
     let count = calls.len().min(answers.len());
     for i in 0..count {
         answers[i] = document.perform(meter, screen, buffer, calls[i]);

@@ -9,7 +9,7 @@ ghost use Rattle.model.specs.End.{edit_change};
 ghost use Rattle.model.specs.Paint.{painted};
 ghost use Rattle.tree.specs.Public.{tree_in};
 ghost use Rattle.editing.specs.Content.{document_measure};
-ghost use Rattle.document.specs.Content.{model_of, text as text_of, Keeps, size_of, Unchanged};
+ghost use Rattle.document.specs.Content.{model_of, new_model, text as text_of, Keeps, size_of, Unchanged};
 ghost use Rattle.document.specs.Tokens.{given_back};
 
 use crate::document::Document;
@@ -17,21 +17,31 @@ use crate::tokens::{Due, Pass, Refused};
 use editing::{Readings, copy_colours, copy_text};
 use grammar::Grammar;
 use meter::Meter;
-use model::Refusal;
+use model::{Change, Refusal};
+use slots::slot::Slot;
 use tree::ChunkTree;
 use walks::DocumentMeter;
 
-impl<'t, 'a, R: Copy> Document<'t, 'a, R> {
-    // A document over a tree in lent memory. If the tree is new, there is no text, and OPEN has to come before any.
-    pub fn new(tree: &'t mut ChunkTree<'a, R>) -> Document<'t, 'a, R>
-        ensures tree { result.tree.now ≡ tree.old }
-        ensures due { result.due ≡ None }
+impl<'a, R: Copy> Document<'a, R> {
+    // A document put together from lent memory: there is no text, and no slot is usable before OPEN.
+    pub fn new(
+        slots: &'a mut [Slot<R>],
+        store: &'a mut [u8],
+        readings: &'a mut [R],
+    ) -> Document<'a, R>
+        ensures is { model_of result ≡ new_model (length slots.old) (length store.old) (length readings.old) }
+        ensures slots { result.tree.memory.slots.now ≡ slots.old }
+        ensures store { result.tree.memory.store.now ≡ store.old }
+        ensures readings { result.tree.memory.readings.now ≡ readings.old }
     {
-        Document { tree, due: None }
+        Document {
+            tree: ChunkTree::new(slots, store, readings),
+            due: None,
+        }
     }
 }
 
-impl<R: Copy> Document<'_, '_, R> {
+impl<R: Copy> Document<'_, R> {
     // CLOSE takes a pass, and nothing else.
     pub fn close(&self, pass: Pass) -> Result<(), Refused<Pass>>
         ensures { given_back result ≡ close_refusal (model_of self.now) }
@@ -53,20 +63,27 @@ impl<R: Copy> Document<'_, '_, R> {
         ensures answer { result ≡ answered (range_refusal (model_of self.now) from to (length out.old)) tt }
         ensures written { out.new ≡ (if is_ok result then with_front (between from to (text_of self.now)) out.old else out.old) }
     {
-        copy_text(self.tree, from, to, out)
+        copy_text(&self.tree, from, to, out)
+    }
+
+    // The change that waits to be painted, if one does.
+    pub fn standing(&self) -> Option<Change>
+        ensures { result ≡ (model_of self.now).due }
+    {
+        self.due
     }
 
     // SIZE: bytes, chunks and height, together.
     pub fn size(&self) -> (u32, u16, u8)
         ensures is { result ≡ size_of self.now }
-        ensures balanced { Balanced (tree_in self.now.tree.now) }
+        ensures balanced { Balanced (tree_in self.now.tree) }
         ensures low { result.2 ≤ 16 }
     {
         (self.tree.bytes(), self.tree.chunks(), self.tree.height())
     }
 }
 
-impl<X: Copy> Document<'_, '_, Readings<X>> {
+impl<X: Copy> Document<'_, Readings<X>> {
     // OPEN makes all lent slots usable and gives the first pass.
     pub fn open<G: Grammar, H: Meter<Reading = X>>(
         &mut self,
@@ -118,7 +135,7 @@ impl<X: Copy> Document<'_, '_, Readings<X>> {
     ) -> Result<Pass, Refused<Due>>
         ensures decides { given_back result ≡ paint_refusal (model_of self.old) due.change (length screen.old) }
         ensures after { model_of self.new ≡ (if is_ok result then settled (model_of self.old) else model_of self.old) }
-        ensures tree { self.new.tree.now ≡ self.old.tree.now }
+        ensures tree { self.new.tree ≡ self.old.tree }
         ensures painted { OnOk result (Keeps self.old (document_measure (G.Grammar.meaning meter.now.first.grammar) (H.Meter.scale meter.now.second.second)) → screen.new ≡ painted (G.Grammar.meaning meter.now.first.grammar) (text_of self.old) due.change screen.old) }
         ensures same { IfErr result (λ f. (f.back ≡ due) × (Unchanged self.old self.new × (screen.new ≡ screen.old))) }
     {
@@ -143,6 +160,6 @@ impl<X: Copy> Document<'_, '_, Readings<X>> {
         ensures written { OnOk result (Keeps self.now (document_measure (G.Grammar.meaning meter.now.first.grammar) (H.Meter.scale meter.now.second.second)) → out.new ≡ with_front (between from to (colours_of (G.Grammar.meaning meter.now.first.grammar) (text_of self.now))) out.old) }
         ensures same { OnErr result (out.new ≡ out.old) }
     {
-        copy_colours(self.tree, meter, from, to, out)
+        copy_colours(&self.tree, meter, from, to, out)
     }
 }

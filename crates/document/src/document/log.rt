@@ -23,7 +23,7 @@ fn answer_unless(refused: Result<(), Refusal>, answer: Answer) -> Answer
     }
 }
 
-impl<X: Copy> Document<'_, '_, Readings<X>> {
+impl<X: Copy> Document<'_, Readings<X>> {
     // Carries a call out, with a screen for PAINT and a buffer for TEXT and COLOURS.
     fn carry_out<G: Grammar, H: Meter<Reading = X>>(
         &mut self,

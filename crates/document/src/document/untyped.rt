@@ -24,7 +24,7 @@ fn same_change(one: Change, other: Change) -> bool
         && one.end == other.end
 }
 
-impl<R: Copy> Document<'_, '_, R> {
+impl<R: Copy> Document<'_, R> {
     // Why OPEN is refused with a grammar of so many states, if it is.
     fn open_refusal(&self, states: u8) -> Option<Refusal>
         ensures { result ≡ open_refused (model_of self.now) states }
@@ -72,7 +72,7 @@ impl<R: Copy> Document<'_, '_, R> {
     }
 }
 
-impl<X: Copy> Document<'_, '_, Readings<X>> {
+impl<X: Copy> Document<'_, Readings<X>> {
     pub(crate) fn try_edit<G: Grammar, H: Meter<Reading = X>>(
         &mut self,
         meter: &DocumentMeter<G, H>,
@@ -90,7 +90,7 @@ impl<X: Copy> Document<'_, '_, Readings<X>> {
         if let Some(due) = self.due {
             return Err(Refusal::DueStands(due.place as u64));
         }
-        let change = apply_edit(self.tree, meter, from, to, bytes)?;
+        let change = apply_edit(&mut self.tree, meter, from, to, bytes)?;
         self.due = Some(change);
         Ok(change)
     }
@@ -103,7 +103,7 @@ impl<X: Copy> Document<'_, '_, Readings<X>> {
     ) -> Result<(), Refusal>
         ensures answer { result ≡ answered (paint_refusal (model_of self.old) change (length screen.old)) tt }
         ensures after { model_of self.new ≡ (if is_ok result then settled (model_of self.old) else model_of self.old) }
-        ensures tree { self.new.tree.now ≡ self.old.tree.now }
+        ensures tree { self.new.tree ≡ self.old.tree }
         ensures painted { OnOk result (Keeps self.old (document_measure (G.Grammar.meaning meter.now.first.grammar) (H.Meter.scale meter.now.second.second)) → screen.new ≡ painted (G.Grammar.meaning meter.now.first.grammar) (text_of self.old) change screen.old) }
         ensures same { OnErr result (Unchanged self.old self.new × (screen.new ≡ screen.old)) }
     {
@@ -114,7 +114,7 @@ impl<X: Copy> Document<'_, '_, Readings<X>> {
         if !stands {
             return Err(Refusal::UnknownDue(change.place as u64));
         }
-        paint_change(self.tree, meter, change, screen)?;
+        paint_change(&self.tree, meter, change, screen)?;
         self.due = None;
         Ok(())
     }

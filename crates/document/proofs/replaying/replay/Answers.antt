@@ -1,6 +1,6 @@
 use Rattle.std.proofs.Common.{◌≡◌, ◌+◌, ◌<◌, List, length, take, drop, set, sym, refl, ap, ◌∙◌, subst, arith}
 use Rattle.std.proofs.lemmas.List.{take_more, take_more_set, drop-set-lt, drop-drop}
-use Rattle.tree.specs.Public.{usable_of}
+use Rattle.model.specs.Model.{Model}
 use Rattle.editing.specs.Content.{document_measure}
 use Rattle.document.specs.declared.call.Call.TheVariants.{Size}
 use Rattle.document.specs.declared.call.Answer.{Answer}
@@ -12,7 +12,7 @@ loop-i-init g c =
     let a = g.G.Grammar.meaning c.args.meter.now.first.grammar in
     let μ = document_measure a (g.H.Meter.scale c.args.meter.now.second.second) in
     let made = c.new-document.ensures in
-    (begins a μ (record { document = c.new-document.result; screen = c.args.screen.now; buffer = c.args.buffer.now }) (record { not_opened = ap usable_of made.tree ∙ c.new-tree.ensures.usable; no_due = made.due }), refl)
+    (begins a μ (record { document = c.new-document.result; screen = c.args.screen.now; buffer = c.args.buffer.now }) (record { not_opened = ap (λ (m : Model). m.usable) made.is; no_due = ap (λ (m : Model). m.due) made.is }), refl)
 
 pub loop-i-preserved : goal.loop-i-preserved
 loop-i-preserved g c =

@@ -9,7 +9,7 @@ use Rattle.document.proofs.document.Document.try_open.Goals as goal
 pub invariant_of-self : goal.invariant_of-self
 invariant_of-self g c =
     let self = c.args.self.now in
-    let T = self.tree.now in
+    let T = self.tree in
     let passes = sym c.in_default.ensures in
     let done : c.prepare.result ≡ true = c.prepare.ensures.answer ∙ ap (λ (l : Lent). preparable T l.slots) c.lent-slots.ensures ∙ can_prepare T self.due c.args.states passes in
     let none = c.prepare.ensures.chunks ∙ cond-true c.prepare.result [] (chunks_now T) done in
@@ -18,7 +18,7 @@ invariant_of-self g c =
 pub returns : goal.returns
 returns g c =
     let self = c.args.self.now in
-    let T = self.tree.now in
+    let T = self.tree in
     let passes = sym c.in_default.ensures in
     let done : c.prepare.result ≡ true = c.prepare.ensures.answer ∙ ap (λ (l : Lent). preparable T l.slots) c.lent-slots.ensures ∙ can_prepare T self.due c.args.states passes in
     let none = c.prepare.ensures.chunks ∙ cond-true c.prepare.result [] (chunks_now T) done in
