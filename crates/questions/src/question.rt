@@ -1,9 +1,8 @@
 // Questions about the tree that memory holds, answered by going down one path.
-ghost use Rattle.std.specs.Prelude.{◌≡◌, ℕ, ◌+◌, ◌<◌, ◌≤◌, length};
+ghost use Rattle.std.specs.Prelude.{All, ◌≡◌, ℕ, ◌+◌, ◌<◌, ◌≤◌, length};
 ghost use Rattle.chunks.specs.Tree.{Tree, Balanced, height as height_of};
 ghost use Rattle.chunks.specs.Spot.{spot_in};
 ghost use Rattle.chunks.specs.Cut.{Chunk};
-ghost use Rattle.std.specs.List.{AllByRecursion as All};
 ghost use Rattle.slots.specs.View.{extent_of, chunks_of, size_of, Roomy};
 ghost use Rattle.slots.specs.Split.{Held};
 ghost use Rattle.slots.specs.Sound.{Sound, tree_of, chunks_in};

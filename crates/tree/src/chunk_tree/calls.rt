@@ -1,10 +1,10 @@
 // What a chunk tree is asked and told.
-ghost use Rattle.std.specs.Prelude.{◌≡◌, ℕ, ◌+◌, ◌-◌, ◌*◌, ◌<◌, ◌≤◌, Bool, true, false, ◌&&◌, List, [], length, take, drop, if◌then◌else◌, None, Decides};
+ghost use Rattle.std.specs.Prelude.{All, ◌≡◌, ℕ, ◌+◌, ◌-◌, ◌*◌, ◌<◌, ◌≤◌, Bool, true, false, ◌&&◌, List, [], length, take, drop, if◌then◌else◌, None, Decides};
 ghost use Rattle.search.specs.Forwards.{stop};
 ghost use Rattle.search.specs.Backwards.{back_stop};
 ghost use Rattle.chunks.specs.Tree.{Balanced, height as height_of};
 ghost use Rattle.chunks.specs.Cut.{joined, cut, replaced, Chunk};
-ghost use Rattle.std.specs.List.{AllByRecursion as All, range_with_len, between};
+ghost use Rattle.std.specs.List.{range_with_len, between};
 ghost use Rattle.chunks.specs.Spot.{spot_in};
 ghost use Rattle.slots.specs.Replace.{SameSize};
 ghost use Rattle.slots.specs.Sound.{free_of};

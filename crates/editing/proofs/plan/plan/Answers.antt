@@ -1,3 +1,5 @@
+use Rattle.std.proofs.lemmas.List.Elements.{recursion_from_All}
+use Rattle.chunks.specs.Cut.{Chunk}
 use Rattle.std.proofs.Common.{◌≡◌, ◌+◌, ◌-◌, ◌≤◌, length, None, Ok, Err, sym, ap, ◌∙◌, subst, arith}
 use Rattle.model.specs.Edit.{edited_chunks, affected, middle_length}
 use Rattle.model.specs.declared.refusal.Refusal.TheVariants.{TooManyChunks}
@@ -43,7 +45,7 @@ returns g c =
     let new = c.args.bytes.now in
     let count : c.chunks.result - (c.affected-run.result.last - c.affected-run.result.first) + c.div_ceil.result ≡ length (edited_chunks chunks c.args.from c.args.to new) = count_told chunks c.args.from c.args.to new c.affected-run.result c.affected-run.ensures (omega arith) (omega arith) _ c.middle_length_of.result _ c.chunks.ensures.is c.middle_length_of.ensures (omega (arith, c.div_ceil.ensures)) in
     let passes = allowed model c.args.from c.args.to new (record { forward = omega arith; inside = omega arith; few_bytes = omega arith; few_chunks = omega arith }) in
-    let short = short_middle chunks c.args.from c.args.to (omega arith) (omega arith) c.chunks.ensures.chunked (length new) in
+    let short = short_middle chunks c.args.from c.args.to (omega arith) (omega arith) (recursion_from_All Chunk _ c.chunks.ensures.chunked) (length new) in
     record {
       is = ap Ok c.affected-run.ensures ∙ sym (ap (λ o. answered o (affected chunks c.args.from c.args.to (length new))) passes);
       short = subst (λ r. middle_length r c.args.from c.args.to (length new) ≤ 1152) (sym c.affected-run.ensures) (omega (arith, short));

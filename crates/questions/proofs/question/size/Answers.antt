@@ -1,10 +1,12 @@
 use Rattle.std.proofs.Common.{sym, ap, ◌∙◌, arith}
 use Rattle.slots.specs.declared.slot.Extent.{Extent}
 use Rattle.std.proofs.lemmas.List.{length-map}
+use Rattle.std.proofs.lemmas.List.Elements.{All-from_recursion}
+use Rattle.chunks.specs.Cut.{Chunk}
 use Rattle.chunks.specs.Tree.{slots}
 use Rattle.chunks.proofs.Footprint.{few_below}
 use Rattle.slots.specs.Claim.{nothing}
-use Rattle.slots.specs.View.{chunk_of}
+use Rattle.slots.specs.View.{chunk_of, chunks_of}
 use Rattle.slots.specs.Sound.{tree_of}
 use Rattle.slots.proofs.Chunked.{chunked}
 use Rattle.slots.proofs.Holds.{balanced_held, low_held}
@@ -24,6 +26,6 @@ returns g c =
       count = ap (λ (x : Extent). x.chunks) (c.extent.ensures t whole.root_is whole.holds) ∙ sym (length-map (slots t) (chunk_of m));
       balanced = balanced_held nothing m t whole.holds;
       low = low_held nothing m whole.roomy t whole.holds (λ j. omega (arith, whole.all j));
-      chunked = chunked nothing m whole.roomy t whole.holds;
+      chunked = All-from_recursion Chunk (chunks_of m t) (chunked nothing m whole.roomy t whole.holds);
       few = omega (arith, length-map (slots t) (chunk_of m), few_below m.usable (slots t) (λ j. omega (arith, whole.all j)));
     }
