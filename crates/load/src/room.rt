@@ -11,7 +11,7 @@ use slots::slot::{Extent, Node, Slot};
 use std::alloc::{AllocError, Global};
 
 // What a reading is before anything was read.
-const UNREAD: Reading = PairReading {
+pub const UNREAD: Reading = PairReading {
     first: Bounded::Overlong,
     second: PairReading {
         first: Bounded::Overlong,
@@ -20,7 +20,7 @@ const UNREAD: Reading = PairReading {
 };
 
 // A slot that was never used.
-const UNUSED: Slot<Reading> = Slot {
+pub const UNUSED: Slot<Reading> = Slot {
     node: Node {
         left: None,
         right: None,

@@ -78,6 +78,7 @@ impl<R: Copy> Document<'_, R> {
         ensures is { result ≡ size_of self.now }
         ensures balanced { Balanced (tree_in self.now.tree) }
         ensures low { result.2 ≤ 16 }
+        ensures few { result.0 ≤ 262144 }
     {
         (self.tree.bytes(), self.tree.chunks(), self.tree.height())
     }
