@@ -1,0 +1,6 @@
+-- What a line asks of a session with the text server, and what is written as its answer.
+pub mod Words
+pub mod Number
+pub mod Digits
+pub mod Bytes
+pub mod Quoted
