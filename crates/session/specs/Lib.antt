@@ -3,4 +3,8 @@ pub mod Words
 pub mod Number
 pub mod Digits
 pub mod Bytes
+pub mod Names
+pub mod Asked
+pub mod Request
 pub mod Quoted
+pub mod Answered

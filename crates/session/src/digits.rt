@@ -43,5 +43,8 @@ fn lower_digit(value: u8) -> u8
 pub fn digits_text(heap: Global, cells: &[u8]) -> Result<Vec<u8>, AllocError>
     ensures { IfOk result (λ v. v.items ≡ map (λ cell. lower_digit_of (cell % 16)) cells.now) }
 {
-    cells.iter().map(|cell| lower_digit(*cell % 16)).collect(heap)
+    cells
+        .iter()
+        .map(|cell| lower_digit(*cell % 16))
+        .collect(heap)
 }

@@ -1,0 +1,28 @@
+// Why a line cannot be read.
+ghost use Rattle.std.specs.Prelude.{◌≡◌};
+ghost use Rattle.session.specs.Asked.{problem_text};
+
+#[derive(Clone, Copy, PartialEq, Eq, Debug)]
+pub enum Problem {
+    UnknownCall,
+    // A number that is missing, or is none from 0 to 4294967295.
+    Number,
+    // Bytes that are missing, or are not written as wanted.
+    Bytes,
+    // Words behind the call.
+    LeftOver,
+}
+
+impl Problem {
+    pub fn text(self) -> &'static str
+        ensures { result.now ≡ problem_text self }
+    {
+        match self {
+            Problem::UnknownCall => "unknown call",
+            Problem::Number => "a number from 0 to 4294967295 is wanted",
+            Problem::Bytes =>
+                "bytes are wanted, as x and pairs of hexadecimal digits or as text in quotes",
+            Problem::LeftOver => "words are left over behind the call",
+        }
+    }
+}
