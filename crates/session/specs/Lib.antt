@@ -8,3 +8,4 @@ pub mod Asked
 pub mod Request
 pub mod Quoted
 pub mod Answered
+pub mod Laws

@@ -1,15 +1,23 @@
 -- A number is written in decimal digits: at least one, no sign, zeros in front as you like, and a value below 2^32.
--- A value never falls with a digit more, so it is tested at each digit.
-use Rattle.std.specs.Prelude.{ℕ, ◌+◌, ◌-◌, ◌*◌, cond, Bool, ◌&&◌, List, [], ◌∷◌, Some, None, Option, nat_le, nat_lt}
+use Rattle.std.specs.Prelude.{ℕ, ◌+◌, ◌-◌, ◌*◌, cond, Bool, true, not, ◌&&◌, List, [], ◌∷◌, length, Some, None, Option, ◌==◌, nat_le, nat_lt}
 
 abbrev pub is_digit : ℕ → Bool
 is_digit b = nat_le 0x30 b && nat_le b 0x39
 
--- `value` is that of the digits before.
-abbrev pub number_from : ℕ → List ℕ → Option ℕ
-number_from value [] = Some value
-number_from value (b ∷ bs) = cond (is_digit b && nat_lt (value * 10 + (b - 0x30)) 4294967296) (number_from (value * 10 + (b - 0x30)) bs) None
+abbrev pub all_digits : List ℕ → Bool
+all_digits [] = true
+all_digits (b ∷ bs) = is_digit b && all_digits bs
+
+-- The value of digits behind others of a value.
+abbrev pub longer : ℕ → ℕ → ℕ
+longer value b = value * 10 + (b - 0x30)
+
+abbrev pub value_from : ℕ → List ℕ → ℕ
+value_from value [] = value
+value_from value (b ∷ bs) = value_from (longer value b) bs
+
+abbrev pub is_number : List ℕ → Bool
+is_number word = not (length word == 0) && (all_digits word && nat_lt (value_from 0 word) 4294967296)
 
 abbrev pub number_of : List ℕ → Option ℕ
-number_of [] = None
-number_of (b ∷ bs) = number_from 0 (b ∷ bs)
+number_of word = cond (is_number word) (Some (value_from 0 word)) None

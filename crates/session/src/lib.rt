@@ -6,6 +6,7 @@ pub mod answering;
 pub mod bytes;
 pub mod call_name;
 pub mod digits;
+pub mod laws;
 pub mod number;
 pub mod problem;
 pub mod quoting;
