@@ -1,5 +1,5 @@
 -- The value of digits, tested at each digit, is that of all: it never falls with a digit more.
-use Rattle.std.proofs.Common.{◌≡◌, ℕ, ◌<◌, ◌≤◌, ltb, cond, Bool, true, false, ◌&&◌, List, [], ◌∷◌, Some, None, Option, refl, ap, ◌∙◌, ⊎_elim, arith}
+use Rattle.std.proofs.Common.{◌≡◌, ℕ, ◌≤◌, ltb, cond, Bool, true, false, ◌&&◌, List, [], ◌∷◌, Some, None, Option, refl, ap, ⊎_elim, arith}
 use Rattle.std.proofs.lemmas.Bool.{cases_lt, lt-ltb, le-ltb, and_right}
 use Rattle.session.specs.Number.{is_digit, all_digits, longer, value_from}
 

@@ -1,5 +1,5 @@
 -- Bytes that are written are read as they were: each byte by itself, and then all.
-use Rattle.std.proofs.Common.{◌≡◌, ◌≢◌, ℕ, ◌+◌, ◌*◌, ◌/◌, ◌%◌, ◌<◌, ◌≤◌, eqb, leb, Bool, true, false, List, [], ◌∷◌, ◌++◌, Some, None, Option, All, ◌&&◌, sym, refl, ap, ◌∙◌, subst, ⊎_elim, append_assoc, arith}
+use Rattle.std.proofs.Common.{◌≡◌, ◌≢◌, ℕ, ◌+◌, ◌*◌, ◌/◌, ◌%◌, ◌<◌, ◌≤◌, leb, false, List, [], ◌∷◌, ◌++◌, Some, All, ◌&&◌, sym, refl, ap, ◌∙◌, subst, ⊎_elim, append_assoc, arith}
 use Rattle.std.specs.List.{flat_map, AllByRecursion}
 use Rattle.std.specs.Option.{option_map}
 use Rattle.std.proofs.lemmas.Bool.{cases_eq, cases_lt, ne_eqb, le-leb, lt-leb, and_right}
@@ -8,7 +8,7 @@ use Rattle.std.proofs.lemmas.List.Elements.{recursion_from_All}
 use Rattle.session.specs.Bytes.{bytes_from, bytes_of}
 use Rattle.session.specs.Digits.{digit_value, lower_digit, upper_digit}
 use Rattle.session.specs.Laws.{QuotedReadsBack, in_pairs}
-use Rattle.session.specs.Quoted.{written, quoted}
+use Rattle.session.specs.Quoted.{written}
 use Rattle.session.specs.Words.{is_blank}
 use Rattle.session.specs.declared.spot.Spot.TheVariants.{Pairs, Text}
 

@@ -13,6 +13,8 @@ pub mod quoting;
 pub mod reading;
 pub mod request;
 pub mod spot;
+#[cfg(test)]
+mod tests;
 pub mod words;
 
 pub use answering::answer_text;
