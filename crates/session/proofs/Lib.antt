@@ -1,2 +1,3 @@
 pub mod ReadBack
 pub mod Numbers
+pub mod LineBack

@@ -1,11 +1,7 @@
 -- The value of digits, tested at each digit, is that of all: it never falls with a digit more.
 use Rattle.std.proofs.Common.{◌≡◌, ℕ, ◌≤◌, ltb, cond, Bool, true, false, ◌&&◌, List, [], ◌∷◌, Some, None, Option, refl, ap, ⊎_elim, arith}
 use Rattle.std.proofs.lemmas.Bool.{cases_lt, lt-ltb, le-ltb, and_right}
-use Rattle.session.specs.Number.{is_digit, all_digits, longer, value_from}
-
--- The value with one more digit, if it is one and the value stays below 2^32.
-abbrev pub longer_within : ℕ → ℕ → Option ℕ
-longer_within value b = cond (is_digit b && ltb (longer value b) 4294967296) (Some (longer value b)) None
+use Rattle.session.specs.Number.{is_digit, all_digits, longer, longer_within, value_from}
 
 -- What the digits that are left give behind others of a value.
 abbrev pub number_from : ℕ → List ℕ → Option ℕ

@@ -1,9 +1,11 @@
 -- What is written reads back as it was. Each law stands on the contract of a function of src/laws.rt, so that it is proved.
-use Rattle.std.specs.Prelude.{◌≡◌, ℕ, ◌/◌, ◌%◌, ◌<◌, List, [], ◌∷◌, Some, All}
+use Rattle.std.specs.Prelude.{◌≡◌, ℕ, ◌/◌, ◌%◌, ◌<◌, List, [], ◌∷◌, ◌++◌, Some, Ok, All, codes, decimal}
 use Rattle.std.specs.List.{flat_map}
+use Rattle.session.specs.Asked.{Edit}
 use Rattle.session.specs.Bytes.{bytes_of}
 use Rattle.session.specs.Digits.{lower_digit, upper_digit}
 use Rattle.session.specs.Quoted.{quoted}
+use Rattle.session.specs.Request.{request_of}
 
 -- Bytes that are written as text in quotes, as those of an edit.
 abbrev pub QuotedReadsBack : Type 0
@@ -17,3 +19,10 @@ in_pairs digit bytes = 0x78 ∷ flat_map (λ b. digit (b / 16) ∷ digit (b % 16
 pub record PairsReadBack : Type 0 where
   pub in_small : (bytes : List ℕ) → All (λ b. b < 256) bytes → bytes_of (in_pairs lower_digit bytes) ≡ Some bytes
   pub in_capitals : (bytes : List ℕ) → All (λ b. b < 256) bytes → bytes_of (in_pairs upper_digit bytes) ≡ Some bytes
+
+-- The line of an edit, its bytes as text in quotes, asks for that edit.
+abbrev pub edit_line : ℕ → ℕ → List ℕ → List ℕ
+edit_line from to bytes = codes "edit " ++ (decimal from ++ (codes " " ++ (decimal to ++ (codes " " ++ quoted bytes))))
+
+abbrev pub EditReadsBack : Type 0
+EditReadsBack = (from to : ℕ) (bytes : List ℕ) → from < 4294967296 → to < 4294967296 → All (λ b. b < 256) bytes → request_of (edit_line from to bytes) ≡ Ok (Edit from to bytes)

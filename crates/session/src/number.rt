@@ -1,10 +1,10 @@
 // Reads a number that is written in decimal digits.
-ghost use Rattle.std.specs.Prelude.{◌≡◌, ◌&&◌, nat_lt, Some, None, if◌then◌else◌};
-ghost use Rattle.session.specs.Number.{is_digit, longer as longer_value, number_of};
+ghost use Rattle.std.specs.Prelude.{◌≡◌};
+ghost use Rattle.session.specs.Number.{longer_within, number_of};
 
 // The value with one more digit, if it is one and the value stays below 2^32.
 fn longer(value: u32, byte: u8) -> Option<u32>
-    ensures { result ≡ (if is_digit byte && nat_lt (longer_value value byte) 4294967296 then Some (longer_value value byte) else None) }
+    ensures { result ≡ longer_within value byte }
 {
     match byte {
         b'0'..=b'9' => value.checked_mul(10)?.checked_add(u32::from(byte - b'0')),
@@ -12,6 +12,7 @@ fn longer(value: u32, byte: u8) -> Option<u32>
     }
 }
 
+// The number that a word is, if it is one.
 pub(crate) fn number(word: &[u8]) -> Option<u32>
     ensures { result ≡ number_of word.now }
 {

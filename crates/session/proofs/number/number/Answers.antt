@@ -1,7 +1,8 @@
 use Rattle.std.proofs.Common.{◌≡◌, ◌+◌, ◌<◌, length, get_or, drop, None, arith, rules}
 use Rattle.std.proofs.lemmas.Grind.{common_steps}
 use Rattle.std.proofs.lemmas.List.{at_drop_more}
-use Rattle.session.proofs.Numbers.{longer_within, number_from, number_stops}
+use Rattle.session.specs.Number.{longer_within}
+use Rattle.session.proofs.Numbers.{number_from, number_stops}
 use Rattle.session.proofs.number.number.Goals as goal
 
 pub returns-in_err-value : goal.returns-in_err-value
