@@ -1,11 +1,11 @@
 #!/usr/bin/env python3
 """Compares the program's colours with a second reading of docs/RULES.md, on random texts and for every pile.
 
-usage: tools/compare_colours.py [ROUNDS]      (after `rt check scene`, which builds target/bin/scene)
+usage: tools/compare_colours.py [ROUNDS]      (after `rt run` in crates/scene, which builds crates/scene/out/scene)
 """
 import pathlib, random, subprocess, sys
 
-PROGRAM = pathlib.Path(__file__).resolve().parent.parent / 'target' / 'bin' / 'scene'
+PROGRAM = pathlib.Path(__file__).resolve().parent.parent / 'crates' / 'scene' / 'out' / 'scene'
 
 
 class Words:
@@ -98,14 +98,17 @@ PILES = {
 }
 
 
-def digits(grammar, text):
+def colours_of(grammar, text):
+    """The colour of each byte, in a walk begun at the first one."""
     state, out = 0, []
     for b in text:
         state, colour = grammar.read(state, b)
-        out.append('%x' % colour)
-        if b == 0x0A:
-            out.append('\n')
-    return ''.join(out) + '\n'
+        out.append(colour)
+    return out
+
+
+def digits(grammar, text):
+    return ''.join('%x' % c + ('\n' if b == 0x0A else '') for b, c in zip(text, colours_of(grammar, text))) + '\n'
 
 
 def random_text(rng):
@@ -122,7 +125,7 @@ def main():
     for _ in range(rounds):
         text = random_text(rng)
         for name, grammar in PILES.items():
-            got = subprocess.run([PROGRAM, name], input=text, capture_output=True).stdout.decode()
+            got = subprocess.run([PROGRAM, name, '--colour'], input=text, capture_output=True).stdout.decode()
             if got != digits(grammar, text):
                 wrong += 1
                 print(f'{name}: wrong on {text[:60]!r}')

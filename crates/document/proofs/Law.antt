@@ -73,7 +73,7 @@ standing None c e = let no : ◌≡◌ {A = ℕ} 0 1 = cc in absurd (omega arith
 standing (Some d) c e = ap Some (agreed d c e)
 
 -- An edit is not refused only where no due stands.
-no_due : (due : Option Change) (next : Option Refusal) → unless_due due next ≡ None → (due ≡ None) × (next ≡ None)
+pub no_due : (due : Option Change) (next : Option Refusal) → unless_due due next ≡ None → (due ≡ None) × (next ≡ None)
 no_due None next e = (refl, e)
 no_due (Some c) next e = let no : ◌≡◌ {A = ℕ} 0 1 = cc in absurd (omega arith)
 

@@ -13,7 +13,7 @@ fn longer(value: u32, byte: u8) -> Option<u32>
 }
 
 // The number that a word is, if it is one.
-pub(crate) fn number(word: &[u8]) -> Option<u32>
+pub fn number(word: &[u8]) -> Option<u32>
     ensures { result ≡ number_of word.now }
 {
     if word.is_empty() {

@@ -1,0 +1,4 @@
+-- What a host makes of the words it is given and of the lines of a session.
+pub mod Piles
+pub mod Lent
+pub mod Replies

@@ -1,0 +1,78 @@
+// Carries out the sessions that are written down on standard input, one after another, so that a gate can compare their answers.
+// Each begins with a line `$ scene WORDS`, as at a prompt, and goes on to the next such line.
+
+#![tactic(auto)]
+
+ghost use Rattle.std.specs.Prelude.{◌<◌, ◌≤◌, length};
+
+use anyhow::anyhow;
+use hosting::{Misread, Options, run_session};
+use std::io::{Read, Write};
+use std::str;
+
+// How many bytes a session has here: up to the next prompt behind a line end, or all.
+fn session_length(text: &[u8]) -> usize
+    requires { 0 < length text.now }
+    ensures some { 0 < result }
+    ensures within { result ≤ length text.now }
+{
+    for i in 1..text.len() {
+        if text[i] == b'$' && text[i - 1] == b'\n' {
+            return i;
+        }
+    }
+    text.len()
+}
+
+// The first line without its line end, and the rest.
+fn first_line(text: &[u8]) -> (&[u8], &[u8]) {
+    for (i, byte) in text.iter().enumerate() {
+        if *byte == b'\n' {
+            return (&text[..i], &text[i + 1..]);
+        }
+    }
+    (text, &[])
+}
+
+// The words behind `$ scene`.
+fn options_of(prompt: &str) -> Result<Options, Misread> {
+    let mut options = Options::new();
+    for word in prompt.split_whitespace().skip(2) {
+        options = options.with_word(word)?;
+    }
+    if options.is_cut_off() {
+        return Err(Misread::NoNumber);
+    }
+    Ok(options)
+}
+
+fn run(rt: &HostRuntime, session: &[u8]) -> anyhow::Result<()> {
+    let (prompt, mut lines) = first_line(session);
+    let Ok(prompt) = str::from_utf8(prompt) else {
+        return Err(anyhow!("a prompt that is no text"));
+    };
+    println!(rt; "{prompt}")?;
+    let options = match options_of(prompt) {
+        Ok(options) => options,
+        Err(misread) => {
+            let text = misread.text();
+            return Ok(println!(rt; "{text}")?);
+        }
+    };
+    if !run_session(rt.alloc(), &options, &mut lines, &mut rt.stdout())? {
+        println!(rt; "some lines could not be read")?;
+    }
+    Ok(())
+}
+
+fn main(rt: HostRuntime) -> anyhow::Result<()> {
+    let mut text = Vec::new(rt.alloc());
+    rt.stdin().read_to_end(&mut text)?;
+    let mut left = text.as_slice();
+    while !left.is_empty() {
+        let end = session_length(left);
+        run(&rt, &left[..end])?;
+        left = &left[end..];
+    }
+    Ok(())
+}
