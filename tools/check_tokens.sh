@@ -1,7 +1,7 @@
 #!/usr/bin/env bash
 # Shows that a program that breaks the discipline of passes and dues does not compile: each edit of tools/tokens is applied to a
-# copy of the program `typing`, and has to be refused with the error it names. That the program itself is fine, which edits again
-# with the pass that a paint gave and closes with the pass of a refused edit, is shown by the gate: it proves and runs it.
+# copy of the program `typing`, and has to be refused with the error it names. The program itself is fine, as the gate shows, which
+# proves and runs it: its second edit spends what the first paint gave, and its close what a refused edit handed back.
 set -euo pipefail
 cd "$(dirname "$0")/.."
 copy=$(mktemp -d)
