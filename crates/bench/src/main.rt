@@ -1,4 +1,4 @@
-// Times the meter of walks beside a plain walk of the same bytes, when it is given the word `run`.
+// Times the meter of walks beside a plain walk of the same bytes, and keystrokes on a document, when it is given the word `run`.
 // Without that word it writes nothing, so that a gate can run it.
 
 #![tactic(auto)]
@@ -11,6 +11,8 @@ use meter::Meter;
 use std::time::Instant;
 use std::{env, io};
 use walks::Walk;
+
+mod calls;
 
 type Pile = Quoted<Comment<Words>>;
 
@@ -101,5 +103,7 @@ fn main(rt: HostRuntime) -> io::Result<()> {
     let walk = time_walk(&rt)?;
     report(&rt, "walk 64 bytes", walk, walk.0)?;
     report(&rt, "join two readings", time_join(&rt)?, walk.0)?;
-    report(&rt, "measure 64 bytes", time_measure(&rt)?, walk.0)
+    report(&rt, "measure 64 bytes", time_measure(&rt)?, walk.0)?;
+    calls::report_keystroke(&rt, 64)?;
+    calls::report_keystroke(&rt, 4000)
 }
