@@ -98,6 +98,23 @@ pub record Obeys {R : Type 0} (a : Automaton) (before : Snapshot R) (e : Entry R
   -- where it was refused, not a byte of the lent memory changed
   pub refused_same : (refusal : Refusal) → refusal_of a before e.call ≡ Some refusal → Unchanged before.document e.after.document
 
+-- The refusal that an answer tells, if it tells one.
+abbrev pub refusal_told : Answer → Option Refusal
+refusal_told answer.Closed = None
+refusal_told answer.Pass = None
+refusal_told (answer.Due change) = None
+refusal_told answer.Written = None
+refusal_told (answer.Size bytes chunks height) = None
+refusal_told (answer.Refused refusal) = Some refusal
+
+-- What is true of a call whatever grammar and meter it is given, and whichever were given before: it is refused as the rules say,
+-- and leaves the text, in the chunks, that they say; where it is refused it leaves everything.
+pub record ObeysInText {R : Type 0} (a : Automaton) (before : Snapshot R) (e : Entry R) : Type 0 where
+  pub refusal_is : refusal_told e.answer ≡ refusal_of a before e.call
+  pub chunks_are : (model_of e.after.document).chunks ≡ left_by (refusal_of a before e.call) (model_of before.document).chunks (model_done a before e.call).chunks
+  pub usable_is : (model_of e.after.document).usable ≡ left_by (refusal_of a before e.call) (model_of before.document).usable (model_done a before e.call).usable
+  pub refused_leaves : (refusal : Refusal) → refusal_of a before e.call ≡ Some refusal → Unchanged before.document e.after.document × ((e.after.screen ≡ before.screen) × (e.after.buffer ≡ before.buffer))
+
 -- A due that was answered names as its end the first place behind the new bytes where the old and the new walk share a state,
 -- else the end of the new text.
 abbrev pub NamesItsEnd : {R : Type 0} → Automaton → Snapshot R → Entry R → Type 0

@@ -3,7 +3,7 @@ ghost use Rattle.std.specs.Prelude.{◌≡◌, List, ◌∷◌};
 ghost use Rattle.model.specs.Calls.{refusal_in};
 ghost use Rattle.editing.specs.Content.{document_measure};
 ghost use Rattle.document.specs.Content.{Keeps};
-ghost use Rattle.document.specs.Log.{Snapshot, Entry, Obeys, replied, latest, Follows};
+ghost use Rattle.document.specs.Log.{Snapshot, Entry, Obeys, ObeysInText, replied, latest, Follows};
 
 use crate::call::{Answer, Call};
 use crate::document::Document;
@@ -33,6 +33,7 @@ impl<X: Copy> Document<'_, Readings<X>> {
         call: Call,
     ) -> Answer
         ensures obeys { Keeps self.old (document_measure (G.Grammar.meaning meter.now.first.grammar) (H.Meter.scale meter.now.second.second)) → Obeys (G.Grammar.meaning meter.now.first.grammar) (record { document = self.old; screen = screen.old; buffer = buffer.old }) (record { call = call.entry; answer = result; after = record { document = self.new; screen = screen.new; buffer = buffer.new } }) }
+        ensures anyway { ObeysInText (G.Grammar.meaning meter.now.first.grammar) (record { document = self.old; screen = screen.old; buffer = buffer.old }) (record { call = call.entry; answer = result; after = record { document = self.new; screen = screen.new; buffer = buffer.new } }) }
         ensures keeps { Keeps self.old (document_measure (G.Grammar.meaning meter.now.first.grammar) (H.Meter.scale meter.now.second.second)) → Keeps self.new (document_measure (G.Grammar.meaning meter.now.first.grammar) (H.Meter.scale meter.now.second.second)) }
     {
         match call {
@@ -76,6 +77,7 @@ impl<X: Copy> Document<'_, Readings<X>> {
         call: Call,
     ) -> Answer
         ensures obeys { Keeps self.old (document_measure (G.Grammar.meaning meter.now.first.grammar) (H.Meter.scale meter.now.second.second)) → Obeys (G.Grammar.meaning meter.now.first.grammar) (record { document = self.old; screen = screen.old; buffer = buffer.old }) (record { call = call.entry; answer = result; after = record { document = self.new; screen = screen.new; buffer = buffer.new } }) }
+        ensures anyway { ObeysInText (G.Grammar.meaning meter.now.first.grammar) (record { document = self.old; screen = screen.old; buffer = buffer.old }) (record { call = call.entry; answer = result; after = record { document = self.new; screen = screen.new; buffer = buffer.new } }) }
         ensures keeps { Keeps self.old (document_measure (G.Grammar.meaning meter.now.first.grammar) (H.Meter.scale meter.now.second.second)) → Keeps self.new (document_measure (G.Grammar.meaning meter.now.first.grammar) (H.Meter.scale meter.now.second.second)) }
         ensures law { (first : Snapshot _) (log : List (Entry _)) → Follows (G.Grammar.meaning meter.now.first.grammar) (document_measure (G.Grammar.meaning meter.now.first.grammar) (H.Meter.scale meter.now.second.second)) first log → latest first log ≡ record { document = self.old; screen = screen.old; buffer = buffer.old } → Follows (G.Grammar.meaning meter.now.first.grammar) (document_measure (G.Grammar.meaning meter.now.first.grammar) (H.Meter.scale meter.now.second.second)) first (record { call = call.entry; answer = result; after = record { document = self.new; screen = screen.new; buffer = buffer.new } } ∷ log) }
     {
