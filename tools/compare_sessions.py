@@ -9,6 +9,7 @@ from compare_colours import Comment, PILES, colours_of
 
 PROGRAM = pathlib.Path(__file__).resolve().parent.parent / 'crates' / 'scene' / 'out' / 'scene'
 DIGITS = '0123456789abcdef'
+OPENINGS, CLOSINGS = b'([{', b')]}'
 ALL = {**PILES, 'comment5': Comment(PILES['comment4'])}
 
 
@@ -18,6 +19,49 @@ def states(grammar, text):
     for b in text:
         out.append(grammar.read(out[-1], b)[0])
     return out
+
+
+def role(colour, b):
+    """1 for a live opening, -1 for a live closing, else 0."""
+    if colour != 3:
+        return 0
+    return (b in OPENINGS) - (b in CLOSINGS)
+
+
+def kind(b):
+    return (OPENINGS + CLOSINGS).index(b) % 3
+
+
+def roles(grammar, text):
+    return [role(c, b) for c, b in zip(colours_of(grammar, text), text)]
+
+
+def position(text):
+    """The line and the column behind a text."""
+    last = text.rsplit(b'\n', 1)[-1]
+    units = sum(0 if 0x80 <= b <= 0xBF else 2 if b >= 0xF0 else 1 for b in last)
+    return text.count(b'\n'), units
+
+
+def summary(grammar, text):
+    lines, units = position(text)
+    depth = least = 0
+    for r in roles(grammar, text):
+        depth += r
+        least = min(least, depth)
+    state = states(grammar, text)[-1]
+    return f'length {len(text)} lines {lines} units {units} state {state} closings {-least} openings {depth - least}'
+
+
+def partner(grammar, text, place):
+    """The place of a bracket's partner, nothing if it has none."""
+    live = roles(grammar, text)
+    depth = 0
+    for q in range(place, len(text)) if live[place] > 0 else range(place, -1, -1):
+        depth += live[q]
+        if depth == 0:
+            return q
+    return None
 
 
 def cut(data):
@@ -87,16 +131,23 @@ class Session:
         self.usable = self.slots
         return 'pass'
 
-    def edit(self, a, b, new):
+    def refused_due(self):
         if self.due:
             return f'refused 5 document {self.due[0]}'
+
+    def refused_edit(self, a, b, new):
         if (no := self.refused_range(a, b)):
             return no
         if len(new) > 1024:
             return f'refused 7 tree {len(new)}'
+        count = len(edited(self.chunks, a, b, new))
+        if count > self.usable:
+            return f'refused 8 tree {count}'
+
+    def edit(self, a, b, new):
+        if (no := self.refused_due() or self.refused_edit(a, b, new)):
+            return no
         chunks = edited(self.chunks, a, b, new)
-        if len(chunks) > self.usable:
-            return f'refused 8 tree {len(chunks)}'
         old, text = self.text(), self.text()[:a] + new + self.text()[b:]
         before, after = states(self.grammar, old), states(self.grammar, text)
         r, k = b - a, len(new)
@@ -118,6 +169,57 @@ class Session:
             self.screen[i] = shown[i + r - k]
         self.due = None
         return 'pass'
+
+    def record(self, text, a, b, start, end):
+        """The refusal of a record, if it is refused."""
+        if (no := self.refused_due()):
+            return no
+        if start > end or end > len(text):
+            return f'refused 15 script {end}'
+        new = text[start:end]
+        if (no := self.refused_edit(a, b, new)):
+            return no
+        n = len(self.text())
+        if len(self.screen) < n or len(self.screen) < n - (b - a) + len(new):
+            return f'refused 10 document {len(self.screen)}'
+        assert self.edit(a, b, new).startswith('due') and self.paint(self.due) == 'pass'
+
+    def script(self, text, records):
+        for index, record in enumerate(records):
+            if (no := self.record(text, *record)):
+                return no.replace('refused', f'refused {index}', 1)
+        return f'done {len(records)}'
+
+    def range(self, a, b):
+        return self.refused_range(a, b) or summary(self.grammar, self.text()[a:b])
+
+    def same(self, place, new):
+        if place > len(self.text()):
+            return f'refused 12 document {place}'
+        return 'yes' if self.text()[place:place + len(new)] == new else 'no'
+
+    def place(self, place):
+        if place > len(self.text()):
+            return f'refused 12 document {place}'
+        return '%d %d' % position(self.text()[:place])
+
+    def spot(self, line, column):
+        text = self.text()
+        if line > text.count(b'\n'):
+            return f'refused 13 document {line}'
+        spots = [p for p in range(len(text) + 1) if position(text[:p])[0] == line and position(text[:p])[1] <= column]
+        return str(max(spots, default=0))
+
+    def partner(self, place):
+        text = self.text()
+        if place >= len(text):
+            return f'refused 12 document {place}'
+        if not roles(self.grammar, text)[place]:
+            return f'refused 14 document {place}'
+        found = partner(self.grammar, text, place)
+        if found is None:
+            return 'none'
+        return f'{found} agree' if kind(text[place]) == kind(text[found]) else f'{found} differ'
 
     def front(self, a, b, room, cells, write):
         if (no := self.refused_range(a, b)):
@@ -144,6 +246,49 @@ def some_bytes(rng):
     return bytes(rng.choice(b'ab1.# "\\\n`([{}])' + bytes([0xF0, 0x9F, 0x80, 0x0D])) for _ in range(size))
 
 
+def written(rng, data):
+    return quoted(data) if rng.random() < 0.5 else 'x' + data.hex()
+
+
+def some_script(rng, n):
+    """A text and records; each is made for the length that the text should have then."""
+    text = b''.join(some_bytes(rng) for _ in range(rng.randint(0, 3)))
+    records = []
+    for _ in range(rng.choice([0, 1, 1, 2, 3, 5])):
+        a, start = rng.randint(0, n), rng.randint(0, len(text))
+        b = min(n, a + rng.choice([0, 0, 1, 5, 40]))
+        end = min(len(text), start + rng.choice([0, 1, 5, 40, 1025]))
+        if rng.random() < 0.1:
+            a, b, start, end = (max(0, x + rng.choice([0, 0, -1, 1, 3])) for x in (a, b, start, end))
+        records.append((a, b, start, end))
+        n = max(0, n - (b - a) + end - start)
+    return text, records
+
+
+def question(rng, session):
+    """One of the calls that ask without writing."""
+    text = session.text()
+    n = len(text)
+    place = rng.randint(0, n + 1)
+    which = rng.random()
+    if which < 0.25:
+        length = rng.choice([0, 1, 3, 70])
+        new = text[place:place + length] if rng.random() < 0.7 else some_bytes(rng)
+        if new and rng.random() < 0.2:
+            new = new[:-1] + bytes([new[-1] ^ 1])
+        return f'same {place} {written(rng, new)}', session.same(place, new)
+    if which < 0.5:
+        return f'place {place}', session.place(place)
+    if which < 0.75:
+        line, column = position(text[:place])
+        line, column = max(0, line + rng.choice([0, 0, 0, 1, -1])), max(0, column + rng.choice([0, 0, 0, 1, -1, 9]))
+        return f'spot {line} {column}', session.spot(line, column)
+    if rng.random() < 0.8:
+        live = [p for p, r in enumerate(roles(session.grammar, text)) if r]
+        place = rng.choice(live) if live else place
+    return f'partner {place}', session.partner(place)
+
+
 def step(rng, session):
     """A line and the answer that it must get."""
     n = len(session.text())
@@ -153,28 +298,35 @@ def step(rng, session):
         a, b = min(a, b), max(a, b)
     if rng.random() < 0.6:
         b = min(b, a + rng.randint(0, 40)) if b >= a else b
-    kind = rng.random()
-    if kind < 0.05:
+    if rng.random() < 0.12:
+        text, records = some_script(rng, n)
+        words = ''.join(' %d,%d,%d,%d' % record for record in records)
+        return f'script {written(rng, text)}{words}', session.script(text, records)
+    if rng.random() < 0.25:
+        return question(rng, session)
+    which = rng.random()
+    if which < 0.05:
         return 'open', session.open()
-    if kind < 0.45:
+    if which < 0.45:
         new = some_bytes(rng)
-        written = quoted(new) if rng.random() < 0.5 else 'x' + new.hex()
-        return f'edit {a} {b} {written}', session.edit(a, b, new)
-    if kind < 0.75:
+        return f'edit {a} {b} {written(rng, new)}', session.edit(a, b, new)
+    if which < 0.75:
         numbers = session.due or (0, 0, 0, 0)
         if rng.random() < 0.1:
             numbers = tuple(rng.randint(0, n) for _ in range(4))
             return 'paint %d %d %d %d' % numbers, session.paint(numbers)
         return 'paint', session.paint(numbers)
-    if kind < 0.78:
-        return 'close', f'refused 5 document {session.due[0]}' if session.due else 'closed'
+    if which < 0.78:
+        return 'close', session.refused_due() or 'closed'
     room = rng.choice([None, None, rng.randint(0, 60)])
     tail = '' if room is None else f' {room}'
-    if kind < 0.85:
+    if which < 0.85:
         return f'text {a} {b}{tail}', session.front(a, b, room, session.text(), quoted)
-    if kind < 0.92:
+    if which < 0.92:
         return f'colours {a} {b}{tail}', session.front(a, b, room, colours_of(session.grammar, session.text()), digits)
-    if kind < 0.96:
+    if which < 0.94:
+        return f'range {a} {b}', session.range(a, b)
+    if which < 0.97:
         return 'size', f'{n} {len(session.chunks)} '
     return 'screen', digits(session.screen[:n])
 

@@ -1,6 +1,8 @@
 -- The law over logs: a call that does as the rules say keeps a log lawful.
-use Rattle.std.proofs.Common.{◌≡◌, ℕ, ◌≤◌, true, ◌&&◌, eqb, leb, List, [], ◌∷◌, length, Some, None, Option, sym, refl, ap, ◌∙◌, subst, arith}
+use Rattle.std.proofs.Common.{◌≡◌, ℕ, ◌≤◌, true, ◌&&◌, eqb, leb, List, [], ◌∷◌, length, Some, None, Ok, Err, Option, Result, sym, refl, ap, ◌∙◌, subst, arith}
 use Rattle.std.proofs.lemmas.Bool.{and_parts, eqb-true, leb-true}
+use Rattle.std.specs.List.{AllByRecursion}
+use Rattle.std.proofs.lemmas.List.Elements.{All-from_recursion, recursion_from_All}
 use Rattle.automaton.specs.Automaton.{Automaton}
 use Rattle.chunks.specs.Cut.{joined}
 use Rattle.chunks.specs.Tree.{Balanced, height}
@@ -20,7 +22,9 @@ use Rattle.model.specs.Model.{Model, text_of}
 use Rattle.model.specs.Paint.{painted, length_before}
 use Rattle.model.proofs.Editing.{edit_leaves_text}
 use Rattle.model.proofs.Ending.{ends_first}
-use Rattle.model.proofs.Painting.{painting_shows}
+use Rattle.model.proofs.Painting.{painting_shows, painted_long}
+use Rattle.model.specs.declared.replacement.Replacement.{Replacement}
+use Rattle.model.specs.Script.{part_of, record_refusal, record_change, recorded, record_painted, Scripted, stopped_or, screen_or, scripted, script_screen}
 use Rattle.tree.specs.declared.chunk_tree.ChunkTree.{ChunkTree}
 use Rattle.tree.specs.Public.{tree_in}
 use Rattle.editing.proofs.Planning.{passed, was_allowed}
@@ -28,8 +32,12 @@ use Rattle.document.specs.declared.call.Call.{Call}
 use Rattle.document.specs.declared.call.Call.TheVariants as call
 use Rattle.document.specs.declared.call.Answer.TheVariants as answer
 use Rattle.document.specs.Content.{model_of, text, Keeps}
-use Rattle.document.specs.Log.{Snapshot, Entry, refusal_of, answer_done, model_done, screen_done, replied, left_by, Obeys, NamesItsEnd, Stands, New, latest, Follows}
+use Rattle.document.specs.Snapshot.{Snapshot}
+use Rattle.document.specs.declared.document.script.RecordRefusal.{RecordRefusal}
+use Rattle.document.specs.Records.{script_result, Carried, Stepwise}
+use Rattle.document.specs.Log.{Entry, script_answer, script_of, refusal_of, answer_done, model_done, screen_done, replied, left_by, Obeys, ByRecords, NamesItsEnd, Stands, New, latest, Follows}
 use Rattle.document.proofs.Opening.{none_usable, openable}
+use Rattle.document.proofs.Records.{no_due, record_accepted}
 
 -- A change that waits: the screen still shows the text before the edit.
 pub record Waits (a : Automaton) (now-text screen : List ℕ) (c : Change) : Type 0 where
@@ -72,11 +80,6 @@ standing : (due : Option Change) (c : Change) → stands due c ≡ true → due 
 standing None c e = let no : ◌≡◌ {A = ℕ} 0 1 = cc in absurd (omega arith)
 standing (Some d) c e = ap Some (agreed d c e)
 
--- An edit is not refused only where no due stands.
-pub no_due : (due : Option Change) (next : Option Refusal) → unless_due due next ≡ None → (due ≡ None) × (next ≡ None)
-no_due None next e = (refl, e)
-no_due (Some c) next e = let no : ◌≡◌ {A = ℕ} 0 1 = cc in absurd (omega arith)
-
 module _ (a : Automaton) (m : Model) (screen : List ℕ) where
   -- OPEN: there was no text, and there is none.
   opened_pending : joined m.chunks ≡ [] → ShownSo a (text_of m) screen m.due → ShownSo a (text_of (opened m)) screen (opened m).due
@@ -117,6 +120,40 @@ module _ (a : Automaton) (m : Model) (screen : List ℕ) where
       let shows = painting_shows a w.old w.from w.to w.new screen w.forward w.inside w.shown (subst (λ t. length t ≤ length screen) w.text_is wide) in
       subst (λ (d : Change). ShowsText a (text_of m) (painted a (text_of m) d screen)) (sym w.change_is) (subst (λ t. ShowsText a t (painted a t (edit_change a w.old w.from w.to w.new) screen)) (sym w.text_is) shows)
 
+-- SCRIPT: its records leave the screen as it should be, one after another.
+record_pending : (a : Automaton) (given : List ℕ) (m : Model) (screen : List ℕ) (r : Replacement) (cells : ℕ) → cells ≡ length screen → record_refusal cells given m r ≡ None → ShownSo a (text_of m) screen m.due →
+    ShowsText a (text_of (recorded given m r)) (record_painted a given m screen r)
+record_pending a given m screen r cells long e p =
+    let new = part_of given r in
+    let ok = record_accepted cells given m r e in
+    let is = edit_leaves_text m.chunks r.from r.to new ok.allowed.forward ok.allowed.inside in
+    let shows = painting_shows a (text_of m) r.from r.to new screen ok.allowed.forward ok.allowed.inside (subst (ShownSo a (text_of m) screen) ok.no_due p) (omega (arith, ok.wide_behind, long)) in
+    subst (λ t. ShowsText a t (painted a t (record_change a given m r) screen)) (sym is) shows
+
+record_long : (a : Automaton) (given : List ℕ) (m : Model) (screen : List ℕ) (r : Replacement) (cells : ℕ) → cells ≡ length screen → record_refusal cells given m r ≡ None → ShownSo a (text_of m) screen m.due →
+    cells ≡ length (record_painted a given m screen r)
+record_long a given m screen r cells long e p =
+    let new = part_of given r in
+    let ok = record_accepted cells given m r e in
+    let is = edit_leaves_text m.chunks r.from r.to new ok.allowed.forward ok.allowed.inside in
+    let same = painted_long a (text_of m) r.from r.to new screen ok.allowed.forward ok.allowed.inside (subst (ShownSo a (text_of m) screen) ok.no_due p) (omega (arith, ok.wide_behind, long)) in
+    long ∙ sym (ap (λ t. length (painted a t (record_change a given m r) screen)) is ∙ same)
+
+abbrev ScriptShown : Automaton → Option Refusal → Model → List ℕ → Scripted → List ℕ → Type 0
+ScriptShown a o m screen rest shown = ShownSo a (text_of (stopped_or o m rest).after) (screen_or o screen shown) (stopped_or o m rest).after.due
+
+script_so : (a : Automaton) (o : Option Refusal) (m : Model) (screen : List ℕ) (rest : Scripted) (shown : List ℕ) → (o ≡ None → ShownSo a (text_of rest.after) shown rest.after.due) → ShownSo a (text_of m) screen m.due → ScriptShown a o m screen rest shown
+script_so a None m screen rest shown further p = further refl
+script_so a (Some f) m screen rest shown further p = p
+
+script_pending : (a : Automaton) (given : List ℕ) (m : Model) (screen : List ℕ) (rs : List Replacement) (cells : ℕ) → cells ≡ length screen → ShownSo a (text_of m) screen m.due →
+    ShownSo a (text_of (scripted cells given m rs).after) (script_screen a cells given m screen rs) (scripted cells given m rs).after.due
+script_pending a given m screen [] cells long p = p
+script_pending a given m screen (r ∷ rs) cells long p =
+    let painted_so = record_painted a given m screen r in
+    script_so a (record_refusal cells given m r) m screen (scripted cells given (recorded given m r) rs) (script_screen a cells given (recorded given m r) painted_so rs)
+    (λ e. script_pending a given (recorded given m r) painted_so rs cells (record_long a given m screen r cells long e p) (record_pending a given m screen r cells long e p)) p
+
 -- Behind a call that was not refused.
 done_pending : {R : Type 0} (a : Automaton) (s : Snapshot R) (k : Call) → refusal_of a s k ≡ None → Pending a s → ShownSo a (text_of (model_done a s k)) (screen_done a s k) (model_done a s k).due
 done_pending a s call.Size e p = p
@@ -126,8 +163,14 @@ done_pending a s (call.Open states) e p =
 done_pending a s (call.Edit from to bytes) e p = edited_pending a (model_of s.document) s.screen from to bytes.now e p
 done_pending a s (call.Paint c) e p = painted_pending a (model_of s.document) s.screen c e p
 done_pending a s call.Close e p = p
+done_pending a s (call.Script records given) e p = script_pending a given.now (model_of s.document) s.screen records.now (length s.screen) refl p
 done_pending a s (call.Text from to room) e p = p
 done_pending a s (call.Colours from to room) e p = p
+done_pending a s (call.Range from to) e p = p
+done_pending a s (call.Same place bytes) e p = p
+done_pending a s (call.Place place) e p = p
+done_pending a s (call.Spot line column) e p = p
+done_pending a s (call.Partner place) e p = p
 
 -- A refusal, or none.
 left_pending : (a : Automaton) (o : Option Refusal) (m done : Model) (screen shown : List ℕ) → (o ≡ None → ShownSo a (text_of done) shown done.due) → ShownSo a (text_of m) screen m.due →
@@ -135,12 +178,17 @@ left_pending : (a : Automaton) (o : Option Refusal) (m done : Model) (screen sho
 left_pending a None m done screen shown d p = d refl
 left_pending a (Some f) m done screen shown d p = p
 
-pub obeyed_pending : {R : Type 0} (a : Automaton) (s : Snapshot R) (e : Entry R) → Obeys a s e → Pending a s → Pending a e.after
-obeyed_pending a s e obeys p =
+pub obeyed_pending : {R : Type 0} (a : Automaton) (μ : Measure R) (s : Snapshot R) (e : Entry R) → Obeys a μ s e → Pending a s → Pending a e.after
+obeyed_pending a μ s e obeys p =
     let o = refusal_of a s e.call in
     let k = e.call in
     pending_by a (left_by o (model_of s.document) (model_done a s k)) (model_of e.after.document) (left_by o s.screen (screen_done a s k)) e.after.screen obeys.model_is obeys.screen_is
     (left_pending a o (model_of s.document) (model_done a s k) s.screen (screen_done a s k) (λ none. done_pending a s k none p) p)
+
+-- A script answers no due.
+no_due_told : {P : Type 0} (r : Result ℕ RecordRefusal) (c : Change) → script_answer r ≡ answer.Due c → P
+no_due_told (Ok done) c e = let no : ◌≡◌ {A = ℕ} 0 1 = cc in absurd (omega arith)
+no_due_told (Err f) c e = let no : ◌≡◌ {A = ℕ} 0 1 = cc in absurd (omega arith)
 
 -- Only an edit that was not refused answers a due.
 due_of_edit : {R : Type 0} (a : Automaton) (s : Snapshot R) (k : Call) (o : Option Refusal) → o ≡ refusal_of a s k → (c : Change) → replied o (answer_done a s k) ≡ answer.Due c → EndsFirst a (text s.document) (text_of (left_by o (model_of s.document) (model_done a s k))) c
@@ -154,9 +202,15 @@ due_of_edit a s (call.Paint d) None is c e = let no : ◌≡◌ {A = ℕ} 0 1 = 
 due_of_edit a s call.Close None is c e = let no : ◌≡◌ {A = ℕ} 0 1 = cc in absurd (omega arith)
 due_of_edit a s (call.Text from to room) None is c e = let no : ◌≡◌ {A = ℕ} 0 1 = cc in absurd (omega arith)
 due_of_edit a s (call.Colours from to room) None is c e = let no : ◌≡◌ {A = ℕ} 0 1 = cc in absurd (omega arith)
+due_of_edit a s (call.Range from to) None is c e = let no : ◌≡◌ {A = ℕ} 0 1 = cc in absurd (omega arith)
+due_of_edit a s (call.Same place bytes) None is c e = let no : ◌≡◌ {A = ℕ} 0 1 = cc in absurd (omega arith)
+due_of_edit a s (call.Place place) None is c e = let no : ◌≡◌ {A = ℕ} 0 1 = cc in absurd (omega arith)
+due_of_edit a s (call.Spot line column) None is c e = let no : ◌≡◌ {A = ℕ} 0 1 = cc in absurd (omega arith)
+due_of_edit a s (call.Partner place) None is c e = let no : ◌≡◌ {A = ℕ} 0 1 = cc in absurd (omega arith)
+due_of_edit a s (call.Script records given) None is c e = no_due_told (script_result (script_of s records.now given.now)) c e
 
-pub names_its_end : {R : Type 0} (a : Automaton) (s : Snapshot R) (e : Entry R) → Obeys a s e → NamesItsEnd a s e
-names_its_end a s e obeys c is =
+pub names_its_end : {R : Type 0} (a : Automaton) (μ : Measure R) (s : Snapshot R) (e : Entry R) → Obeys a μ s e → NamesItsEnd a s e
+names_its_end a μ s e obeys c is =
     subst (λ (m : Model). EndsFirst a (text s.document) (text_of m) c) (sym obeys.model_is) (due_of_edit a s e.call (refusal_of a s e.call) refl c (sym obeys.answer_is ∙ is))
 
 -- The tree that memory holds is balanced and low, whatever happened.
@@ -194,18 +248,54 @@ new_pending a s new = shown_new a (text s.document) s.screen (model_of s.documen
 -- Behind every lawful log.
 pub log_pending : {R : Type 0} (a : Automaton) (μ : Measure R) (first : Snapshot R) (log : List (Entry R)) → Follows a μ first log → Pending a (latest first log)
 log_pending a μ first [] f = new_pending a first f.0
-log_pending a μ first (e ∷ log) f = obeyed_pending a (latest first log) e f.1.0 (log_pending a μ first log f.0)
+log_pending a μ first (e ∷ log) f = obeyed_pending a μ (latest first log) e f.1.0 (log_pending a μ first log f.0)
 
 pub log_stands : {R : Type 0} (a : Automaton) (μ : Measure R) (first : Snapshot R) (log : List (Entry R)) → Follows a μ first log → Stands a μ (latest first log)
 log_stands a μ first [] f = f.1
-log_stands a μ first (e ∷ log) f = f.1.1.1
+log_stands a μ first (e ∷ log) f = f.1.1.1.0
+
+-- Behind each record of a script.
+carried_pending : {R : Type 0} (a : Automaton) (given : List ℕ) (r : Replacement) (before after : Snapshot R) → Carried a given r before after → Pending a before → Pending a after
+carried_pending a given r before after c p =
+    let m = model_of before.document in
+    pending_by a (recorded given m r) (model_of after.document) (record_painted a given m before.screen r) after.screen c.model_is c.screen_is
+    (record_pending a given m before.screen r (length before.screen) refl c.accepted p)
+
+steps_stand : {R : Type 0} (a : Automaton) (μ : Measure R) (given : List ℕ) (before : Snapshot R) (rs : List Replacement) (steps : List (Snapshot R)) (after : Snapshot R) → Stepwise a given before rs steps after →
+    Pending a before → AllByRecursion (λ s. Keeps s.document μ) steps → AllByRecursion (Stands a μ) steps
+steps_stand a μ given before rs [] after stepwise p kept = tt
+steps_stand a μ given before [] (s ∷ steps) after stepwise p kept = absurd stepwise
+steps_stand a μ given before (r ∷ rs) (s ∷ steps) after stepwise p kept =
+    let here = carried_pending a given r before s stepwise.0 p in
+    (stands_so a μ s here kept.0, steps_stand a μ given s rs steps after stepwise.1 here kept.1)
+
+by_records : {R : Type 0} (a : Automaton) (μ : Measure R) (before : Snapshot R) (k : Call) (after : Snapshot R) → Pending a before → ByRecords a (λ s. Keeps s.document μ) before k after → ByRecords a (Stands a μ) before k after
+by_records a μ before (call.Script records given) after p done = record {
+  steps = done.steps;
+  as_many = done.as_many;
+  stepwise = done.stepwise;
+  each = All-from_recursion (Stands a μ) done.steps (steps_stand a μ given.now before records.now done.steps after done.stepwise p (recursion_from_All (λ s. Keeps s.document μ) done.steps done.each));
+}
+by_records a μ before call.Size after p done = tt
+by_records a μ before (call.Open states) after p done = tt
+by_records a μ before (call.Edit from to bytes) after p done = tt
+by_records a μ before (call.Paint c) after p done = tt
+by_records a μ before call.Close after p done = tt
+by_records a μ before (call.Text from to room) after p done = tt
+by_records a μ before (call.Colours from to room) after p done = tt
+by_records a μ before (call.Range from to) after p done = tt
+by_records a μ before (call.Same place bytes) after p done = tt
+by_records a μ before (call.Place place) after p done = tt
+by_records a μ before (call.Spot line column) after p done = tt
+by_records a μ before (call.Partner place) after p done = tt
 
 -- One call more.
 pub log_goes_on : {R : Type 0} (a : Automaton) (μ : Measure R) (first : Snapshot R) (log : List (Entry R)) (s : Snapshot R) (e : Entry R) → Follows a μ first log → latest first log ≡ s →
-    (Keeps s.document μ → Obeys a s e) → (Keeps s.document μ → Keeps e.after.document μ) → Follows a μ first (e ∷ log)
-log_goes_on a μ first log s e f is obeys keeps =
+    (Keeps s.document μ → Obeys a μ s e) → (Keeps s.document μ → Keeps e.after.document μ) → (Keeps s.document μ → ByRecords a (λ t. Keeps t.document μ) s e.call e.after) → Follows a μ first (e ∷ log)
+log_goes_on a μ first log s e f is obeys keeps records =
     let kept = subst (λ t. Keeps t.document μ) is (log_stands a μ first log f).slots_keep_readings in
     let p = log_pending a μ first log f in
-    let done = subst (λ t. Obeys a t e) (sym is) (obeys kept) in
-    let behind = obeyed_pending a (latest first log) e done p in
-    (f, (done, (names_its_end a (latest first log) e done, stands_so a μ e.after behind (keeps kept))))
+    let done = subst (λ t. Obeys a μ t e) (sym is) (obeys kept) in
+    let behind = obeyed_pending a μ (latest first log) e done p in
+    let each = by_records a μ (latest first log) e.call e.after p (subst (λ t. ByRecords a (λ u. Keeps u.document μ) t e.call e.after) (sym is) (records kept)) in
+    (f, (done, (names_its_end a μ (latest first log) e done, (stands_so a μ e.after behind (keeps kept), each))))

@@ -8,6 +8,7 @@ use Rattle.chunks.proofs.Footprint.{few_below}
 use Rattle.slots.specs.View.{chunk_of}
 use Rattle.slots.specs.Sound.{tree_of}
 use Rattle.slots.proofs.Reading.{whole_sound}
+use Rattle.measure.specs.Place.{line_ends}
 use Rattle.model.specs.declared.change.Change.{Change}
 use Rattle.model.specs.declared.refusal.Refusal.TheVariants.{OpenedBefore, SlotCount, LentLength, UnusableGrammar}
 use Rattle.model.specs.Calls.{unless, open_refusal, due_fits}
@@ -66,6 +67,10 @@ module _ {R : Type 0} (T : ChunkTree R) (due : Option Change) (states : ℕ) (pa
       (and_from _ _ (le-leb (lent_to T).slots 4096 k.few_slots)
       (and_from _ _ (le-leb (lent_to T).slots (lent_to T).slots (omega arith))
       (and_from _ _ (le-leb (lent_to T).slots (lent_to T).readings (omega (arith, k.readings_fit))) (le-leb (64 * (lent_to T).slots) (lent_to T).store (omega (arith, k.store_fits)))))))
+
+  -- There is no line end, as there was none.
+  pub still_counted : (after : ChunkTree R) (lines : ℕ) → chunks_now after ≡ [] → lines ≡ line_ends (text_in T) → lines ≡ line_ends (text_in after)
+  still_counted after lines none counted = counted ∙ sym (ap (λ cs. line_ends (joined cs)) (none ∙ sym (none_usable T known.not_opened)))
 
   -- A due that stood fits the text as before: both are empty.
   pub still_fits : (after : ChunkTree R) → chunks_now after ≡ [] → due_fits due (length (text_in T)) ≡ true → due_fits due (length (text_in after)) ≡ true

@@ -13,7 +13,8 @@ use Rattle.tree.specs.declared.chunk_tree.ChunkTree.{ChunkTree}
 use Rattle.tree.specs.Public.{usable_of, KeptBy}
 use Rattle.document.specs.declared.call.Call.{Call}
 use Rattle.document.specs.declared.call.Answer.{Answer}
-use Rattle.document.specs.Log.{Snapshot, Entry, New, latest, Follows, Replayed}
+use Rattle.document.specs.Snapshot.{Snapshot}
+use Rattle.document.specs.Log.{Entry, New, latest, Follows, lent_of, Replayed}
 use Rattle.document.proofs.Law.{new_pending, stands_so}
 
 no_slots : (t : Tree) → length (slots t) ≡ 0 → t ≡ leaf
@@ -30,54 +31,49 @@ kept_none T none μ =
     subst (Holds (kept μ) m) (sym bare) tt
 
 module _ {R : Type 0} (a : Automaton) (μ : Measure R) where
-  pub record Going (screen buffer : List ℕ) (calls : List Call) (answers : List Answer) (here : Snapshot R) : Type 0 where
+  pub record Going (lent : List ℕ × List ℕ × R) (calls : List Call) (answers : List Answer) (here : Snapshot R) : Type 0 where
     pub first : Snapshot R
     pub log : List (Entry R)
     pub follows : Follows a μ first log
     pub calls_are : map (λ e. e.call) (reverse log) ≡ calls
     pub answers_are : map (λ e. e.answer) (reverse log) ≡ answers
-    pub screen_before : first.screen ≡ screen
-    pub buffer_before : first.buffer ≡ buffer
+    pub begins_with : lent_of first ≡ lent
     pub comes_to : latest first log ≡ here
 
-  pub begins : (s : Snapshot R) → New s → Going s.screen s.buffer [] [] s
+  pub begins : (s : Snapshot R) → New s → Going (lent_of s) [] [] s
   begins s new = record {
     first = s;
     log = [];
     follows = (new, stands_so a μ s (new_pending a s new) (kept_none s.document.tree new.not_opened μ));
     calls_are = refl;
     answers_are = refl;
-    screen_before = refl;
-    buffer_before = refl;
+    begins_with = refl;
     comes_to = refl;
   }
 
   mapped_more : {Y : Type 0} (f : Entry R → Y) (e : Entry R) (log : List (Entry R)) → map f (reverse (e ∷ log)) ≡ map f (reverse log) ++ (f e ∷ [])
   mapped_more f e log = ap (map f) (reverse-append (e ∷ []) log) ∙ map-append f (reverse log) (e ∷ [])
 
-  pub goes_on : (screen buffer : List ℕ) (calls : List Call) (answers : List Answer) (here : Snapshot R) (e : Entry R) → Going screen buffer calls answers here →
+  pub goes_on : (lent : List ℕ × List ℕ × R) (calls : List Call) (answers : List Answer) (here : Snapshot R) (e : Entry R) → Going lent calls answers here →
       ((first : Snapshot R) (log : List (Entry R)) → Follows a μ first log → latest first log ≡ here → Follows a μ first (e ∷ log)) →
-      (calls' : List Call) → calls' ≡ calls ++ (e.call ∷ []) → (answers' : List Answer) → answers' ≡ answers ++ (e.answer ∷ []) → Going screen buffer calls' answers' e.after
-  goes_on screen buffer calls answers here e g step calls' more answers' told = record {
+      (calls' : List Call) → calls' ≡ calls ++ (e.call ∷ []) → (answers' : List Answer) → answers' ≡ answers ++ (e.answer ∷ []) → Going lent calls' answers' e.after
+  goes_on lent calls answers here e g step calls' more answers' told = record {
     first = g.first;
     log = e ∷ g.log;
     follows = step g.first g.log g.follows g.comes_to;
     calls_are = mapped_more (λ x. x.call) e g.log ∙ ap (λ l. l ++ (e.call ∷ [])) g.calls_are ∙ sym more;
     answers_are = mapped_more (λ x. x.answer) e g.log ∙ ap (λ l. l ++ (e.answer ∷ [])) g.answers_are ∙ sym told;
-    screen_before = g.screen_before;
-    buffer_before = g.buffer_before;
+    begins_with = g.begins_with;
     comes_to = refl;
   }
 
-  pub replayed : (screen buffer : List ℕ) (calls : List Call) (answers : List Answer) (here : Snapshot R) → Going screen buffer calls answers here → Replayed a μ screen buffer calls answers here.screen here.buffer
-  replayed screen buffer calls answers here g = record {
+  pub replayed : (lent : List ℕ × List ℕ × R) (calls : List Call) (answers : List Answer) (here : Snapshot R) → Going lent calls answers here → Replayed a μ calls answers lent (lent_of here)
+  replayed lent calls answers here g = record {
     first = g.first;
     log = g.log;
     follows = g.follows;
     calls_are = g.calls_are;
     answers_are = g.answers_are;
-    screen_before = g.screen_before;
-    buffer_before = g.buffer_before;
-    screen_behind = ap (λ (s : Snapshot R). s.screen) g.comes_to;
-    buffer_behind = ap (λ (s : Snapshot R). s.buffer) g.comes_to;
+    begins_with = g.begins_with;
+    leaves = ap lent_of g.comes_to;
   }

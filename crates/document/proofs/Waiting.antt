@@ -4,13 +4,15 @@ use Rattle.std.proofs.lemmas.Bool.{cond-true, le-leb}
 use Rattle.std.proofs.lemmas.List.{length-drop, length-take-le}
 use Rattle.model.specs.declared.change.Change.{Change}
 use Rattle.model.specs.declared.refusal.Refusal.TheVariants.{UnknownDue, ShortScreen}
-use Rattle.model.specs.Calls.{change_refusal, edit_refusal, edited, same_change, paint_refusal, screen_refusal}
+use Rattle.model.specs.Calls.{unless_due, change_refusal, edit_refusal, edited, same_change, paint_refusal, screen_refusal}
 use Rattle.model.specs.Edit.{edited_text}
 use Rattle.model.specs.Model.{Model, text_of}
 use Rattle.model.specs.Paint.{length_before}
 use Rattle.model.proofs.Editing.{edit_leaves_text}
 use Rattle.editing.proofs.Planning.{was_allowed}
-use Rattle.document.proofs.Law.{no_due}
+use Rattle.model.specs.declared.replacement.Replacement.{Replacement}
+use Rattle.model.specs.Script.{part_of, record_refusal, record_change, RecordsArePaintedEdits}
+use Rattle.document.proofs.Records.{no_due, record_accepted}
 
 same_self : (c : Change) → same_change c c ≡ true
 same_self c = rw (eq-eqb c.place c.place refl, eq-eqb c.removed c.removed refl, eq-eqb c.inserted c.inserted refl, eq-eqb c.end c.end refl)
@@ -34,3 +36,20 @@ due_painted m from to new c cells e removed inserted before behind =
     let wide : (leb n cells && leb (length_before c n) cells) ≡ true = rw (le-leb n cells behind, le-leb (length_before c n) cells fits) in
     cond-true (same_change c c) (screen_refusal (edited m from to new c) c cells) (Some (UnknownDue c.place)) (same_self c)
     ∙ cond-true (leb n cells && leb (length_before c n) cells) None (Some (ShortScreen cells)) wide
+
+-- A record that is not refused: its edit is not, and the due of that edit is painted.
+pub record_edited : (cells : ℕ) (given : List ℕ) (m : Model) (r : Replacement) → record_refusal cells given m r ≡ None → edit_refusal m r.from r.to (part_of given r) ≡ None
+record_edited cells given m r e =
+    let ok = record_accepted cells given m r e in
+    ap (λ d. unless_due d (change_refusal m r.from r.to (part_of given r))) ok.no_due ∙ ok.not_refused
+
+pub record_done : (cells : ℕ) (given : List ℕ) (m : Model) (r : Replacement) (c : Change) → record_refusal cells given m r ≡ None → c.removed ≡ r.to - r.from → c.inserted ≡ length (part_of given r) →
+    paint_refusal (edited m r.from r.to (part_of given r) c) c cells ≡ None
+record_done cells given m r c e removed inserted =
+    let new = part_of given r in
+    let ok = record_accepted cells given m r e in
+    let is = ap length (edit_leaves_text m.chunks r.from r.to new ok.allowed.forward ok.allowed.inside) in
+    due_painted m r.from r.to new c cells (record_edited cells given m r e) removed inserted ok.wide_before (omega (arith, ok.wide_behind))
+
+pub records_are_painted_edits : RecordsArePaintedEdits
+records_are_painted_edits a given m screen r e = (record_edited (length screen) given m r e, (record_done (length screen) given m r (record_change a given m r) e refl refl, (refl, refl)))

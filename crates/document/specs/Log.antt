@@ -1,30 +1,30 @@
 -- A log of calls: what each call answers and leaves, and what is promised of every log of a document since it was new.
-use Rattle.std.specs.Prelude.{◌≡◌, ℕ, ◌≤◌, min, List, [], ◌∷◌, map, reverse, length, Some, None, Option}
+use Rattle.std.specs.Prelude.{◌≡◌, ℕ, ◌≤◌, min, List, [], ◌∷◌, map, reverse, length, Some, None, Ok, Err, Option, Result}
 use Rattle.std.specs.List.{between}
 use Rattle.automaton.specs.Automaton.{Automaton}
 use Rattle.automaton.specs.Walk.{colours}
 use Rattle.chunks.specs.Tree.{Balanced, height}
-use Rattle.measure.specs.Measure.{Measure}
+use Rattle.measure.specs.Measure.{Measure, reading}
 use Rattle.model.specs.declared.change.Change.{Change}
 use Rattle.model.specs.declared.refusal.Refusal.{Refusal}
-use Rattle.model.specs.Calls.{open_refusal, opened, edit_refusal, edited, paint_refusal, settled, close_refusal, range_refusal, with_front}
+use Rattle.model.specs.declared.replacement.Replacement.{Replacement}
+use Rattle.model.specs.Calls.{open_refusal, opened, edit_refusal, edited, paint_refusal, settled, close_refusal, range_refusal, with_front, extent_refusal, place_refusal, spot_refusal, partner_refusal, but_bracket, begins}
 use Rattle.model.specs.End.{edit_change, EndsFirst}
 use Rattle.model.specs.Laws.{ShowsText}
 use Rattle.model.specs.Model.{Model}
 use Rattle.model.specs.Paint.{painted}
+use Rattle.model.specs.Script.{Scripted, scripted, script_screen}
+use Rattle.brackets.specs.Partner.{partner}
+use Rattle.positions.specs.Position.{line_of, column_of, spot}
 use Rattle.tree.specs.Public.{tree_in}
-use Rattle.document.specs.declared.document.Document.{Document}
+use Rattle.document.specs.declared.document.script.RecordRefusal.{RecordRefusal}
 use Rattle.document.specs.declared.call.Call.{Call}
 use Rattle.document.specs.declared.call.Call.TheVariants as call
 use Rattle.document.specs.declared.call.Answer.{Answer}
 use Rattle.document.specs.declared.call.Answer.TheVariants as answer
 use Rattle.document.specs.Content.{model_of, text, Keeps, size_of, Unchanged}
-
--- All that a call can see and change: the document, the screen and the buffer.
-pub record Snapshot (R : Type 0) : Type 0 where
-  pub document : Document R
-  pub screen : List ℕ
-  pub buffer : List ℕ
+use Rattle.document.specs.Snapshot.{Snapshot, SameSnapshot}
+use Rattle.document.specs.Records.{script_result, RecordByRecord}
 
 -- A call with all it was given, its answer, and what it left.
 pub record Entry (R : Type 0) : Type 0 where
@@ -32,16 +32,31 @@ pub record Entry (R : Type 0) : Type 0 where
   pub answer : Answer
   pub after : Snapshot R
 
+-- What a SCRIPT answers: how many records it did, or which one was refused, and why.
+abbrev pub script_answer : Result ℕ RecordRefusal → Answer
+script_answer (Ok done) = answer.Done done
+script_answer (Err refusal) = answer.RecordRefused refusal
+
+-- What the records of a script do, one after another.
+abbrev pub script_of : {R : Type 0} → Snapshot R → List Replacement → List ℕ → Scripted
+script_of s records given = scripted (length s.screen) given (model_of s.document) records
+
 module _ {R : Type 0} (a : Automaton) (s : Snapshot R) where
-  -- The first reason to refuse a call, if there is one.
+  -- The first reason to refuse a call, if there is one. A script is never refused as a whole: its answer tells of its records.
   abbrev pub refusal_of : Call → Option Refusal
   refusal_of call.Size = None
   refusal_of (call.Open states) = open_refusal (model_of s.document) states
   refusal_of (call.Edit from to bytes) = edit_refusal (model_of s.document) from to bytes.now
   refusal_of (call.Paint change) = paint_refusal (model_of s.document) change (length s.screen)
+  refusal_of (call.Script records given) = None
   refusal_of call.Close = close_refusal (model_of s.document)
   refusal_of (call.Text from to room) = range_refusal (model_of s.document) from to (min room (length s.buffer))
   refusal_of (call.Colours from to room) = range_refusal (model_of s.document) from to (min room (length s.buffer))
+  refusal_of (call.Range from to) = extent_refusal (model_of s.document) from to
+  refusal_of (call.Same place bytes) = place_refusal (model_of s.document) place
+  refusal_of (call.Place place) = place_refusal (model_of s.document) place
+  refusal_of (call.Spot line column) = spot_refusal (model_of s.document) line
+  refusal_of (call.Partner place) = partner_refusal a (model_of s.document) place
 
   -- What a call answers and leaves where it is not refused.
   abbrev pub answer_done : Call → Answer
@@ -49,36 +64,38 @@ module _ {R : Type 0} (a : Automaton) (s : Snapshot R) where
   answer_done (call.Open states) = answer.Pass
   answer_done (call.Edit from to bytes) = answer.Due (edit_change a (text s.document) from to bytes.now)
   answer_done (call.Paint change) = answer.Pass
+  answer_done (call.Script records given) = script_answer (script_result (script_of s records.now given.now))
   answer_done call.Close = answer.Closed
   answer_done (call.Text from to room) = answer.Written
   answer_done (call.Colours from to room) = answer.Written
+  answer_done (call.Range from to) = answer.Written
+  answer_done (call.Same place bytes) = answer.Begins (begins (text s.document) place bytes.now)
+  answer_done (call.Place place) = answer.Position (line_of (text s.document) place) (column_of (text s.document) place)
+  answer_done (call.Spot line column) = answer.Spot (spot (text s.document) line column)
+  answer_done (call.Partner place) = answer.Partner (partner a (text s.document) place)
 
+  -- The calls that are not named leave it as it was.
   abbrev pub model_done : Call → Model
-  model_done call.Size = model_of s.document
   model_done (call.Open states) = opened (model_of s.document)
   model_done (call.Edit from to bytes) = edited (model_of s.document) from to bytes.now (edit_change a (text s.document) from to bytes.now)
   model_done (call.Paint change) = settled (model_of s.document)
-  model_done call.Close = model_of s.document
-  model_done (call.Text from to room) = model_of s.document
-  model_done (call.Colours from to room) = model_of s.document
+  model_done (call.Script records given) = (script_of s records.now given.now).after
+  model_done k = model_of s.document
 
   abbrev pub screen_done : Call → List ℕ
-  screen_done call.Size = s.screen
-  screen_done (call.Open states) = s.screen
-  screen_done (call.Edit from to bytes) = s.screen
   screen_done (call.Paint change) = painted a (text s.document) change s.screen
-  screen_done call.Close = s.screen
-  screen_done (call.Text from to room) = s.screen
-  screen_done (call.Colours from to room) = s.screen
+  screen_done (call.Script records given) = script_screen a (length s.screen) given.now (model_of s.document) s.screen records.now
+  screen_done k = s.screen
 
   abbrev pub buffer_done : Call → List ℕ
-  buffer_done call.Size = s.buffer
-  buffer_done (call.Open states) = s.buffer
-  buffer_done (call.Edit from to bytes) = s.buffer
-  buffer_done (call.Paint change) = s.buffer
-  buffer_done call.Close = s.buffer
   buffer_done (call.Text from to room) = with_front (between from to (text s.document)) s.buffer
   buffer_done (call.Colours from to room) = with_front (between from to (colours a (text s.document))) s.buffer
+  buffer_done k = s.buffer
+
+-- The lent reading behind a call: RANGE reads by the document's meter.
+abbrev pub reading_done : {R : Type 0} → Measure R → Snapshot R → Call → R
+reading_done μ s (call.Range from to) = reading μ (between from to (text s.document))
+reading_done μ s k = s.reading
 
 -- A refusal stands in the place of an answer, and leaves what was there before.
 abbrev pub replied : Option Refusal → Answer → Answer
@@ -90,30 +107,38 @@ left_by None before done = done
 left_by (Some refusal) before done = before
 
 -- A call did as the rules say.
-pub record Obeys {R : Type 0} (a : Automaton) (before : Snapshot R) (e : Entry R) : Type 0 where
+pub record Obeys {R : Type 0} (a : Automaton) (μ : Measure R) (before : Snapshot R) (e : Entry R) : Type 0 where
   pub answer_is : e.answer ≡ replied (refusal_of a before e.call) (answer_done a before e.call)
   pub model_is : model_of e.after.document ≡ left_by (refusal_of a before e.call) (model_of before.document) (model_done a before e.call)
   pub screen_is : e.after.screen ≡ left_by (refusal_of a before e.call) before.screen (screen_done a before e.call)
   pub buffer_is : e.after.buffer ≡ left_by (refusal_of a before e.call) before.buffer (buffer_done a before e.call)
+  pub reading_is : e.after.reading ≡ left_by (refusal_of a before e.call) before.reading (reading_done μ before e.call)
   -- where it was refused, not a byte of the lent memory changed
   pub refused_same : (refusal : Refusal) → refusal_of a before e.call ≡ Some refusal → Unchanged before.document e.after.document
 
+-- A script was carried out record by record, and so much is true behind each record.
+abbrev pub ByRecords : {R : Type 0} → Automaton → (Snapshot R → Type 0) → Snapshot R → Call → Snapshot R → Type 0
+ByRecords a True before (call.Script records given) after = RecordByRecord a True given.now records.now before after
+ByRecords a True before k after = Unit {0}
+
 -- The refusal that an answer tells, if it tells one.
 abbrev pub refusal_told : Answer → Option Refusal
-refusal_told answer.Closed = None
-refusal_told answer.Pass = None
-refusal_told (answer.Due change) = None
-refusal_told answer.Written = None
-refusal_told (answer.Size bytes chunks height) = None
 refusal_told (answer.Refused refusal) = Some refusal
+refusal_told k = None
+
+-- A script answers what its records come to.
+abbrev pub ScriptAnswers : {R : Type 0} → Snapshot R → Call → Answer → Type 0
+ScriptAnswers before (call.Script records given) told = told ≡ script_answer (script_result (script_of before records.now given.now))
+ScriptAnswers before k told = Unit {0}
 
 -- What is true of a call whatever grammar and meter it is given, and whichever were given before: it is refused as the rules say,
--- and leaves the text, in the chunks, that they say; where it is refused it leaves everything.
+-- but for the refusal that no live bracket is there, and leaves the text, in the chunks, that they say; where it is refused it leaves everything.
 pub record ObeysInText {R : Type 0} (a : Automaton) (before : Snapshot R) (e : Entry R) : Type 0 where
-  pub refusal_is : refusal_told e.answer ≡ refusal_of a before e.call
+  pub refusal_is : but_bracket (refusal_told e.answer) ≡ but_bracket (refusal_of a before e.call)
+  pub script_is : ScriptAnswers before e.call e.answer
   pub chunks_are : (model_of e.after.document).chunks ≡ left_by (refusal_of a before e.call) (model_of before.document).chunks (model_done a before e.call).chunks
   pub usable_is : (model_of e.after.document).usable ≡ left_by (refusal_of a before e.call) (model_of before.document).usable (model_done a before e.call).usable
-  pub refused_leaves : (refusal : Refusal) → refusal_of a before e.call ≡ Some refusal → Unchanged before.document e.after.document × ((e.after.screen ≡ before.screen) × (e.after.buffer ≡ before.buffer))
+  pub refused_leaves : (refusal : Refusal) → refusal_of a before e.call ≡ Some refusal → SameSnapshot before e.after
 
 -- A due that was answered names as its end the first place behind the new bytes where the old and the new walk share a state,
 -- else the end of the new text.
@@ -137,20 +162,24 @@ abbrev pub latest : {R : Type 0} → Snapshot R → List (Entry R) → Snapshot 
 latest first [] = first
 latest first (e ∷ log) = e.after
 
--- The log of a document since it was new: every call did as the rules say, every due names its end, and behind each call the
--- document and its screen stand as promised.
+-- The log of a document since it was new: every call did as the rules say, every due names its end, and behind each call, and
+-- behind each record of a script, the document and its screen stand as promised.
 abbrev pub Follows : {R : Type 0} → Automaton → Measure R → Snapshot R → List (Entry R) → Type 0
 Follows a μ first [] = New first × Stands a μ first
-Follows a μ first (e ∷ log) = Follows a μ first log × (Obeys a (latest first log) e × (NamesItsEnd a (latest first log) e × Stands a μ e.after))
+Follows a μ first (e ∷ log) =
+    Follows a μ first log × (Obeys a μ (latest first log) e × (NamesItsEnd a (latest first log) e
+    × (Stands a μ e.after × ByRecords a (Stands a μ) (latest first log) e.call e.after)))
 
--- A log of a new document with the given calls, in order, and their answers, from one screen and buffer to another.
-pub record Replayed {R : Type 0} (a : Automaton) (μ : Measure R) (screen buffer : List ℕ) (calls : List Call) (answers : List Answer) (screen-after buffer-after : List ℕ) : Type 0 where
+-- The memory lent to the calls.
+abbrev pub lent_of : {R : Type 0} → Snapshot R → List ℕ × List ℕ × R
+lent_of s = (s.screen, s.buffer, s.reading)
+
+-- A log of a new document with the given calls, in order, and their answers, from one screen, buffer and reading to others.
+pub record Replayed {R : Type 0} (a : Automaton) (μ : Measure R) (calls : List Call) (answers : List Answer) (before after : List ℕ × List ℕ × R) : Type 0 where
   pub first : Snapshot R
   pub log : List (Entry R)
   pub follows : Follows a μ first log
   pub calls_are : map (λ e. e.call) (reverse log) ≡ calls
   pub answers_are : map (λ e. e.answer) (reverse log) ≡ answers
-  pub screen_before : first.screen ≡ screen
-  pub buffer_before : first.buffer ≡ buffer
-  pub screen_behind : (latest first log).screen ≡ screen-after
-  pub buffer_behind : (latest first log).buffer ≡ buffer-after
+  pub begins_with : lent_of first ≡ before
+  pub leaves : lent_of (latest first log) ≡ after

@@ -4,10 +4,12 @@
 
 pub mod call;
 pub mod document;
+pub mod laws;
 pub mod replaying;
 pub mod tokens;
 
 pub use call::{Answer, Call};
 pub use document::Document;
+pub use document::script::RecordRefusal;
 pub use replaying::replay;
-pub use tokens::{Due, Pass, Refused};
+pub use tokens::{Due, Pass, Refused, ScriptRefused};

@@ -20,17 +20,18 @@ pub fn replay<X: Copy, G: Grammar, H: Meter<Reading = X>>(
     readings: &mut [Readings<X>],
     screen: &mut [u8],
     buffer: &mut [u8],
+    reading: &mut Readings<X>,
     calls: &[Call],
     answers: &mut [Answer],
 ) -> usize
     ensures count { result ≡ min (length calls.now) (length answers.old) }
     ensures rest { drop result answers.new ≡ drop result answers.old }
-    ensures law { Replayed (G.Grammar.meaning meter.now.first.grammar) (document_measure (G.Grammar.meaning meter.now.first.grammar) (H.Meter.scale meter.now.second.second)) screen.old buffer.old (take result calls.now) (take result answers.new) screen.new buffer.new }
+    ensures law { Replayed (G.Grammar.meaning meter.now.first.grammar) (document_measure (G.Grammar.meaning meter.now.first.grammar) (H.Meter.scale meter.now.second.second)) (take result calls.now) (take result answers.new) (screen.old, buffer.old, reading.old) (screen.new, buffer.new, reading.new) }
 {
     let mut document = Document::new(slots, store, readings);
     let count = calls.len().min(answers.len());
     for i in 0..count {
-        answers[i] = document.perform(meter, screen, buffer, calls[i]);
+        answers[i] = document.perform(meter, screen, buffer, reading, calls[i]);
     }
     count
 }

@@ -1,6 +1,7 @@
 // What a host holds between its calls. Neither can be copied or let go: a pass is spent by an edit or a close, a due by a paint.
 ghost use Rattle.std.specs.Prelude.{◌≡◌};
 
+use crate::document::script::RecordRefusal;
 use model::{Change, Refusal};
 
 // Leave to edit.
@@ -20,6 +21,12 @@ impl Due {
     {
         self.change
     }
+}
+
+// A script that was refused at one of its records: the records before it are done, and the pass comes back.
+pub struct ScriptRefused {
+    pub back: Pass,
+    pub record: RecordRefusal,
 }
 
 // A refused call gives back what it was given.

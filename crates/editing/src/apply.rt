@@ -1,5 +1,7 @@
 // An edit carried out on the tree.
 ghost use Rattle.std.specs.Prelude.{◌≡◌, ℕ, ◌+◌, ◌-◌, ◌<◌, ◌≤◌, length, take, IfOk, None, OnErr};
+ghost use Rattle.std.specs.List.{between};
+ghost use Rattle.measure.specs.Place.{line_ends};
 ghost use Rattle.model.specs.Edit.{middle as middle_of, middle_length, affected, edited_chunks};
 ghost use Rattle.tree.specs.Public.{chunks_now, usable_of, lent_to, KeptBy};
 ghost use Rattle.editing.specs.Content.{text_in, model_in, document_measure};
@@ -7,6 +9,7 @@ ghost use Rattle.editing.specs.Applied.{Applied};
 ghost use Rattle.model.specs.Calls.{change_refusal, refusal_in};
 ghost use Rattle.model.specs.End.{edit_change};
 
+use crate::lines::line_ends_between;
 use crate::plan::plan;
 use crate::readings::Readings;
 use crate::states::{apart_from, state_before};
@@ -67,6 +70,12 @@ fn replace_run<R: Copy, M: Meter<Reading = R>>(
     let _ = tree.replace(meter, run.first, run.last, &middle[0..length]);
 }
 
+// What an edit did: its change, and how many line ends it took out.
+pub struct Edited {
+    pub change: Change,
+    pub lost: u32,
+}
+
 // Puts new bytes in the place of a range, and says up to where colours have changed; or why the tree refuses it.
 pub fn apply_edit<X: Copy, G: Grammar, H: Meter<Reading = X>>(
     tree: &mut ChunkTree<Readings<X>>,
@@ -74,10 +83,11 @@ pub fn apply_edit<X: Copy, G: Grammar, H: Meter<Reading = X>>(
     from: u32,
     to: u32,
     bytes: &[u8],
-) -> Result<Change, Refusal>
+) -> Result<Edited, Refusal>
     ensures decides { refusal_in result ≡ change_refusal (model_in tree.old None) from to bytes.now }
-    ensures applied { IfOk result (λ c. Applied tree.old from to bytes.now tree.new c) }
-    ensures ends { IfOk result (λ c. KeptBy tree.old (document_measure (G.Grammar.meaning meter.now.first.grammar) (H.Meter.scale meter.now.second.second)) → c ≡ edit_change (G.Grammar.meaning meter.now.first.grammar) (text_in tree.old) from to bytes.now) }
+    ensures applied { IfOk result (λ e. Applied tree.old from to bytes.now tree.new e.change) }
+    ensures lost { IfOk result (λ e. e.lost ≡ line_ends (between from to (text_in tree.old))) }
+    ensures ends { IfOk result (λ e. KeptBy tree.old (document_measure (G.Grammar.meaning meter.now.first.grammar) (H.Meter.scale meter.now.second.second)) → e.change ≡ edit_change (G.Grammar.meaning meter.now.first.grammar) (text_in tree.old) from to bytes.now) }
     ensures keeps { KeptBy tree.old (document_measure (G.Grammar.meaning meter.now.first.grammar) (H.Meter.scale meter.now.second.second)) → KeptBy tree.new (document_measure (G.Grammar.meaning meter.now.first.grammar) (H.Meter.scale meter.now.second.second)) }
     ensures same { OnErr result (tree.new ≡ tree.old) }
 {
@@ -86,12 +96,14 @@ pub fn apply_edit<X: Copy, G: Grammar, H: Meter<Reading = X>>(
         old: state_before(tree, meter, to),
         new: walk(&meter.first.grammar, state_before(tree, meter, from), bytes),
     };
+    let lost = line_ends_between(tree, from, to);
     replace_run(tree, meter, run, from, to, bytes);
     let behind = from + bytes.len() as u32;
-    Ok(Change {
+    let change = Change {
         place: from,
         removed: to - from,
         inserted: bytes.len() as u32,
         end: behind + apart_from(tree, meter, behind, states) as u32,
-    })
+    };
+    Ok(Edited { change, lost })
 }

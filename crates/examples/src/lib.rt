@@ -6,4 +6,6 @@
 mod counts;
 #[cfg(test)]
 mod meters;
+#[cfg(test)]
+mod places;
 pub mod table;

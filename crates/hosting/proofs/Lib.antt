@@ -1,2 +1,4 @@
 pub mod Replying
+pub mod Conversing
 pub mod Naming
+pub mod RangeTold

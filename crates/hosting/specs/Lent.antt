@@ -3,7 +3,7 @@ use Rattle.std.specs.Prelude.{ℕ, cond, Bool, false, List, [], ◌∷◌, Some,
 use Rattle.std.specs.Str.{bytes_eq}
 use Rattle.report.specs.declared.pile.Pile.{Pile}
 use Rattle.report.specs.declared.pile.Pile.TheVariants.{Words, Comment, String, Region, StringComment, CommentString, CommentRegion, StringRegion, Comment4, Comment5}
-use Rattle.session.specs.Number.{number_of}
+use Rattle.notation.specs.Number.{number_of}
 use Rattle.hosting.specs.declared.options.Misread.{Misread}
 use Rattle.hosting.specs.declared.options.Misread.TheVariants.{UnknownPile, SecondPile, SecondSlots, NoNumber}
 use Rattle.hosting.specs.declared.options.Setting.{Setting}

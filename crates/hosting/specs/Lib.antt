@@ -2,3 +2,6 @@
 pub mod Piles
 pub mod Lent
 pub mod Replies
+pub mod Laws
+pub mod Conversing
+pub mod Hosted

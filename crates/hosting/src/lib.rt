@@ -4,6 +4,7 @@
 #![tactic(auto)]
 
 pub mod dialogue;
+pub mod laws;
 pub mod options;
 pub mod piles;
 pub mod reply;

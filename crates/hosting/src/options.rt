@@ -1,10 +1,10 @@
 // What a host lends and under which pile it works, as the words behind the program's name say.
 ghost use Rattle.std.specs.Prelude.{◌≡◌, ◌*◌, ◌^◌, ◌<◌, unwrap_or, is_some};
-ghost use Rattle.session.specs.Number.{number_of};
+ghost use Rattle.notation.specs.Number.{number_of};
 ghost use Rattle.hosting.specs.Lent.{setting_named as setting_of, pile_named as pile_of, begins_with_digit as begins_so, set_by, slots_by, pile_by, word_read, no_options, misread_text};
 
+use notation::number::number;
 use report::Pile;
-use session::number::number;
 
 // How many slots are lent if no word says so, and how many cells a screen has.
 const USUAL_SLOTS: u32 = 4096;

@@ -1,7 +1,7 @@
 // What a host does about a request, and what it writes as the answer.
 ghost use Rattle.std.specs.Prelude.{◌≡◌, ◌-◌, min, take, length, unwrap_or, option_map, IfOk, MatchOption, IsTrue};
 ghost use Rattle.document.specs.Content.{Keeps};
-ghost use Rattle.document.specs.Log.{Snapshot};
+ghost use Rattle.document.specs.Snapshot.{Snapshot};
 ghost use Rattle.editing.specs.Content.{document_measure};
 ghost use Rattle.measure.specs.Blank.{blank_measure};
 ghost use Rattle.session.specs.Asked.{asked as asked_by};
@@ -12,7 +12,9 @@ use editing::Readings;
 use grammar::Grammar;
 use meter::Blank;
 use model::Change;
-use session::{Request, answer_text, digits_text, quoted_text};
+use notation::{digits_text, quoted_text};
+use report::{summarize, summary_text};
+use session::{Request, answer_text};
 use std::alloc::{AllocError, Global};
 use walks::DocumentMeter;
 
@@ -32,9 +34,15 @@ fn front(cells: &[u8], from: u32, to: u32) -> &[u8]
     &cells[..count]
 }
 
-// The answer of a call, which may have written to the front of the buffer.
-fn answer_of(heap: Global, call: Call, answer: Answer, buffer: &[u8]) -> Result<Vec<u8>, AllocError>
-    ensures { IfOk result (λ v. v.items ≡ written_of call.entry answer buffer.now) }
+// The answer of a call, which may have written to the front of the buffer or to the reading.
+fn answer_of(
+    heap: Global,
+    call: Call,
+    answer: Answer,
+    buffer: &[u8],
+    reading: &Readings<()>,
+) -> Result<Vec<u8>, AllocError>
+    ensures { IfOk result (λ v. v.items ≡ written_of call.entry answer buffer.now reading.now) }
 {
     match (call, answer) {
         (Call::Text { from, to, .. }, Answer::Written) => {
@@ -42,6 +50,10 @@ fn answer_of(heap: Global, call: Call, answer: Answer, buffer: &[u8]) -> Result<
         }
         (Call::Colours { from, to, .. }, Answer::Written) => {
             digits_text(heap, front(buffer, from, to))
+        }
+        (Call::Range { .. }, Answer::Written) => {
+            let summary = summarize(&reading.first, &reading.second.first);
+            Ok(summary_text(heap, summary)?.into_bytes())
         }
         _ => Ok(answer_text(heap, answer)?.into_bytes()),
     }
@@ -89,6 +101,21 @@ fn call_of<'a>(
             room: room_of(*room, cells),
         }),
         Request::Size => Some(Call::Size),
+        Request::Script { text, records } => Some(Call::Script { records, text }),
+        Request::Range { from, to } => Some(Call::Range {
+            from: *from,
+            to: *to,
+        }),
+        Request::Same { place, bytes } => Some(Call::Same {
+            place: *place,
+            bytes,
+        }),
+        Request::Place(place) => Some(Call::Place { place: *place }),
+        Request::Spot { line, column } => Some(Call::Spot {
+            line: *line,
+            column: *column,
+        }),
+        Request::Partner(place) => Some(Call::Partner { place: *place }),
     }
 }
 
@@ -107,16 +134,17 @@ pub fn reply<G: Grammar>(
     document: &mut Document<Readings<()>>,
     screen: &mut [u8],
     buffer: &mut [u8],
+    reading: &mut Readings<()>,
     request: &Request,
 ) -> Result<Option<Vec<u8>>, AllocError>
-    ensures replies { Keeps document.old (document_measure (G.meaning meter.now.first.grammar) blank_measure) → IfOk result (λ out. Replies (G.meaning meter.now.first.grammar) (asked_by request.now) (record { document = document.old; screen = screen.old; buffer = buffer.old }) (record { document = document.new; screen = screen.new; buffer = buffer.new }) (option_map (λ v. v.items) out)) }
+    ensures replies { Keeps document.old (document_measure (G.meaning meter.now.first.grammar) blank_measure) → IfOk result (λ out. Replies (G.meaning meter.now.first.grammar) (document_measure (G.meaning meter.now.first.grammar) blank_measure) (asked_by request.now) (record { document = document.old; screen = screen.old; buffer = buffer.old; reading = reading.old }) (record { document = document.new; screen = screen.new; buffer = buffer.new; reading = reading.new }) (option_map (λ v. v.items) out)) }
     ensures keeps { Keeps document.old (document_measure (G.meaning meter.now.first.grammar) blank_measure) → Keeps document.new (document_measure (G.meaning meter.now.first.grammar) blank_measure) }
 {
     let states = meter.first.grammar.count();
     match call_of(states, document.standing(), buffer.len(), request) {
         Some(call) => {
-            let answer = document.perform(meter, screen, buffer, call);
-            Ok(Some(answer_of(heap, call, answer, buffer)?))
+            let answer = document.perform(meter, screen, buffer, reading, call);
+            Ok(Some(answer_of(heap, call, answer, buffer, reading)?))
         }
         None => match request {
             Request::Screen(asked) => {

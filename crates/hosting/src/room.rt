@@ -1,4 +1,8 @@
-// Memory that is made for a document, its screen and its buffer, and let go behind the session.
+// Memory that is made for a document, its screen, its buffer and its reading, and let go behind the session.
+ghost use Rattle.std.specs.Prelude.{◌≡◌, IfOk};
+ghost use Rattle.hosting.specs.Piles.{automaton_of};
+ghost use Rattle.hosting.specs.Hosted.{pile_lent, Hosted};
+
 use crate::dialogue::converse;
 use crate::options::Options;
 use crate::piles::{Work, with_pile};
@@ -24,8 +28,9 @@ struct Session<'o, 'l, 'w, R, W> {
 impl<R: BufRead, W: Write> Work for Session<'_, '_, '_, R, W> {
     type Output = Result<bool>;
 
-    // What the lines say, and what reaches the output, no clause knows.
-    ghost done = { λ _ _ _ _. Unit {0} };
+    // The session that was held, with the reader and the writer that were lent for it.
+    ghost done = { λ s a t result. (t.lines.ghost_name ≡ s.lines.ghost_name) × (t.out.ghost_name ≡ s.out.ghost_name)
+        × IfOk result (Hosted s.options.now a (R.remaining s.lines.now) (W.contents s.out.now) (W.contents t.out.now)) };
 
     fn run<G: Grammar + Copy>(&mut self, grammar: &G) -> Result<bool> {
         let meter: DocumentMeter<G, Blank> = Pair {
@@ -41,6 +46,7 @@ impl<R: BufRead, W: Write> Work for Session<'_, '_, '_, R, W> {
         let mut readings = vec![in heap; UNREAD; self.options.readings()]?;
         let mut screen = vec![in heap; 0; self.options.screen()]?;
         let mut buffer = vec![in heap; 0; BUFFER]?;
+        let mut reading = UNREAD;
         let mut document = Document::new(&mut slots, &mut store, &mut readings);
         converse(
             heap,
@@ -48,6 +54,7 @@ impl<R: BufRead, W: Write> Work for Session<'_, '_, '_, R, W> {
             &mut document,
             &mut screen,
             &mut buffer,
+            &mut reading,
             self.lines,
             self.out,
         )
@@ -60,7 +67,9 @@ pub fn run_session<R: BufRead, W: Write>(
     options: &Options,
     lines: &mut R,
     out: &mut W,
-) -> Result<bool> {
+) -> Result<bool>
+    ensures { IfOk result (Hosted options.now (automaton_of (pile_lent options.now)) (R.remaining lines.old) (W.contents out.old) (W.contents out.new)) }
+{
     let mut session = Session {
         heap,
         options,

@@ -9,6 +9,7 @@ use Rattle.measure.proofs.Bounded.{bounded_within, bounded_over}
 use Rattle.measure.proofs.Place.{place_is}
 use Rattle.measure.specs.declared.bounded_reading.Bounded.TheVariants.{Within}
 use Rattle.measure.specs.declared.place_reading.Extent.{Extent}
+use Rattle.positions.proofs.Lines.{one_end, no_end, units_first, units_later}
 use Rattle.search.specs.Forwards.{then, through}
 use Rattle.locate.specs.InLine.{lined, column_on}
 use Rattle.locate.specs.declared.lined.Lined.{Lined}
@@ -26,36 +27,23 @@ base_first u text e = cond-true (eqb (line_ends text) 0) u 0 (eq-eqb (line_ends 
 pub base_later : (u : ℕ) (text : List ℕ) → (line_ends text ≡ 0 → ⊥) → base u text ≡ 0
 base_later u text e = cond-false (eqb (line_ends text) 0) u 0 (ne_eqb (line_ends text) 0 e)
 
-base_zero : (text : List ℕ) → base 0 text ≡ 0
+pub base_zero : (text : List ℕ) → base 0 text ≡ 0
 base_zero text = cond_both (eqb (line_ends text) 0) 0 0 (λ z. z ≡ 0) (λ e. refl) (λ e. refl)
-
--- A byte that ends a line counts one line end, any other none.
-one_end : (b : ℕ) (text : List ℕ) → ends_line b ≡ true → line_ends (b ∷ text) ≡ suc (line_ends text)
-one_end b text e = ap (λ z. cond z 1 0 + line_ends text) e ∙ omega arith
-
-no_end : (b : ℕ) (text : List ℕ) → ends_line b ≡ false → line_ends (b ∷ text) ≡ line_ends text
-no_end b text e = ap (λ z. cond z 1 0 + line_ends text) e ∙ omega arith
-
-units_first : (b : ℕ) (text : List ℕ) → line_ends (b ∷ text) ≡ 0 → units (b ∷ text) ≡ width b + units text
-units_first b text e = ap (λ z. z + units text) (cond-true (eqb (line_ends (b ∷ text)) 0) (width b) 0 (eq-eqb (line_ends (b ∷ text)) 0 e))
-
-units_later : (b : ℕ) (text : List ℕ) → (line_ends (b ∷ text) ≡ 0 → ⊥) → units (b ∷ text) ≡ units text
-units_later b text e = ap (λ z. z + units text) (cond-false (eqb (line_ends (b ∷ text)) 0) (width b) 0 (ne_eqb (line_ends (b ∷ text)) 0 e)) ∙ omega arith
 
 module _ (column : ℕ) where
   -- One byte, by what it is.
   before_line : (n u b : ℕ) → column_on column (lined (suc n) u) b ≡ cond (ends_line b) (Some (lined (suc n - 1) 0)) (Some (lined (suc n) u))
   before_line n u b = cond-false (eqb (suc n) 0) _ (cond (ends_line b) (Some (lined (suc n - 1) 0)) (Some (lined (suc n) u))) (ne_eqb (suc n) 0 (λ e. omega arith))
 
-  counts_down : (n u b : ℕ) → ends_line b ≡ true → column_on column (lined (suc n) u) b ≡ Some (lined n 0)
+  pub counts_down : (n u b : ℕ) → ends_line b ≡ true → column_on column (lined (suc n) u) b ≡ Some (lined n 0)
   counts_down n u b e =
       let less : suc n - 1 ≡ n = omega arith in
       before_line n u b ∙ cond-true (ends_line b) (Some (lined (suc n - 1) 0)) (Some (lined (suc n) u)) e ∙ ap (λ k. Some (lined k 0)) less
 
-  goes_on : (n u b : ℕ) → ends_line b ≡ false → column_on column (lined (suc n) u) b ≡ Some (lined (suc n) u)
+  pub goes_on : (n u b : ℕ) → ends_line b ≡ false → column_on column (lined (suc n) u) b ≡ Some (lined (suc n) u)
   goes_on n u b e = before_line n u b ∙ cond-false (ends_line b) (Some (lined (suc n - 1) 0)) (Some (lined (suc n) u)) e
 
-  adds : (u b : ℕ) → ends_line b ≡ false → u + width b ≤ column → column_on column (lined 0 u) b ≡ Some (lined 0 (u + width b))
+  pub adds : (u b : ℕ) → ends_line b ≡ false → u + width b ≤ column → column_on column (lined 0 u) b ≡ Some (lined 0 (u + width b))
   adds u b e h = grind (arith, nat_tests)
 
   abbrev over : Option Lined → List ℕ → Option Lined
@@ -96,12 +84,12 @@ module _ (column : ℕ) where
       ap (λ o. over o text) (goes_on k u b t) ∙ passes_units text (suc k) u (omega arith) (omega arith) ∙ same_lined refl (omega arith))
       (cases_Bool (ends_line b))
 
--- A reading that is not overlong tells the line ends and the units of its text.
-pub told : (text : List ℕ) (x : Extent) → reading place_measure text ≡ Within x → (x.lines ≡ line_ends text) × (x.units ≡ units text)
+-- A reading that is not overlong tells the line ends, the units and the length of its text.
+pub told : (text : List ℕ) (x : Extent) → reading place_measure text ≡ Within x → (x.lines ≡ line_ends text) × (x.units ≡ units text) × (x.length ≡ length text)
 told text x e =
     let is = place_is text in
     ⊎_elim (λ h. let over = bounded_over extent text h in let z : ◌≡◌ {A = ℕ} 0 1 = cc in absurd (omega arith))
     (λ h. let within = bounded_within extent text h in
     let same : x ≡ extent text = cc in
-    (ap (λ (y : Extent). y.lines) same, ap (λ (y : Extent). y.units) same))
+    (ap (λ (y : Extent). y.lines) same, ap (λ (y : Extent). y.units) same, ap (λ (y : Extent). y.length) same))
     (cases_lt longest (length text))

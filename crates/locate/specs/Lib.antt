@@ -2,3 +2,8 @@
 pub mod StateBefore
 pub mod Meeting
 pub mod InLine
+pub mod Depth
+pub mod PartnerAhead
+pub mod PartnerBehind
+pub mod ComesToPartner
+pub mod AtPlace

@@ -4,6 +4,7 @@ ghost use Rattle.measure.specs.Pair.{pair_measure};
 
 use measure::pair_reading::PairReading;
 use meter::Meter;
+use seek::backward::Backward;
 use seek::forward::Forward;
 
 #[derive(Clone, Copy)]
@@ -30,6 +31,41 @@ impl<'m, S: Forward, M: Meter> Forward for OnFirst<'m, S, M> {
     }
 }
 
+impl<'m, S: Backward, M: Meter> Backward for OnFirst<'m, S, M> {
+    type Reading = PairReading<S::Reading, M::Reading>;
+
+    type Fore = S::Fore;
+
+    type At = S::At;
+
+    ghost scale = { λ s. pair_measure (S.Backward.scale s.search) (M.Meter.scale s.other.now) };
+
+    ghost fore = { λ s. S.Backward.fore s.search };
+
+    ghost back = { λ s. S.Backward.back s.search };
+
+    fn ahead(&self, state: S::Fore, byte: u8) -> S::Fore {
+        self.search.ahead(state, byte)
+    }
+
+    fn ahead_over(&self, state: S::Fore, reading: &PairReading<S::Reading, M::Reading>) -> S::Fore {
+        self.search.ahead_over(state, &reading.first)
+    }
+
+    fn prev(&self, state: S::Fore, byte: u8, at: S::At) -> Option<S::At> {
+        self.search.prev(state, byte, at)
+    }
+
+    fn pass_back(
+        &self,
+        state: S::Fore,
+        reading: &PairReading<S::Reading, M::Reading>,
+        at: S::At,
+    ) -> Option<S::At> {
+        self.search.pass_back(state, &reading.first, at)
+    }
+}
+
 #[derive(Clone, Copy)]
 pub struct OnSecond<'m, S, M> {
     pub search: S,
@@ -51,5 +87,40 @@ impl<'m, S: Forward, M: Meter> Forward for OnSecond<'m, S, M> {
 
     fn pass(&self, at: S::At, reading: &PairReading<M::Reading, S::Reading>) -> Option<S::At> {
         self.search.pass(at, &reading.second)
+    }
+}
+
+impl<'m, S: Backward, M: Meter> Backward for OnSecond<'m, S, M> {
+    type Reading = PairReading<M::Reading, S::Reading>;
+
+    type Fore = S::Fore;
+
+    type At = S::At;
+
+    ghost scale = { λ s. pair_measure (M.Meter.scale s.other.now) (S.Backward.scale s.search) };
+
+    ghost fore = { λ s. S.Backward.fore s.search };
+
+    ghost back = { λ s. S.Backward.back s.search };
+
+    fn ahead(&self, state: S::Fore, byte: u8) -> S::Fore {
+        self.search.ahead(state, byte)
+    }
+
+    fn ahead_over(&self, state: S::Fore, reading: &PairReading<M::Reading, S::Reading>) -> S::Fore {
+        self.search.ahead_over(state, &reading.second)
+    }
+
+    fn prev(&self, state: S::Fore, byte: u8, at: S::At) -> Option<S::At> {
+        self.search.prev(state, byte, at)
+    }
+
+    fn pass_back(
+        &self,
+        state: S::Fore,
+        reading: &PairReading<M::Reading, S::Reading>,
+        at: S::At,
+    ) -> Option<S::At> {
+        self.search.pass_back(state, &reading.second, at)
     }
 }

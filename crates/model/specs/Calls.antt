@@ -1,8 +1,13 @@
 -- Each call: the first reason to refuse it, and what it leaves. A call that is refused leaves everything as it was.
 use Rattle.std.specs.Prelude.{ℕ, ◌+◌, ◌-◌, ◌*◌, Bool, true, false, cond, ◌&&◌, List, [], ◌++◌, length, drop, Some, None, Ok, Err, Option, Result, ◌==◌, nat_le, nat_lt}
+use Rattle.std.specs.List.{between}
+use Rattle.std.specs.Str.{bytes_eq}
+use Rattle.automaton.specs.Automaton.{Automaton}
+use Rattle.measure.specs.Place.{line_ends}
+use Rattle.brackets.specs.Partner.{role_at, is_live}
 use Rattle.model.specs.declared.change.Change.{Change}
 use Rattle.model.specs.declared.refusal.Refusal.{Refusal}
-use Rattle.model.specs.declared.refusal.Refusal.TheVariants.{OpenedBefore, SlotCount, LentLength, UnusableGrammar, DueStands, OutsideText, TooManyBytes, TooManyChunks, UnknownDue, ShortScreen, ShortBuffer}
+use Rattle.model.specs.declared.refusal.Refusal.TheVariants.{OpenedBefore, SlotCount, LentLength, UnusableGrammar, DueStands, OutsideText, TooManyBytes, TooManyChunks, UnknownDue, ShortScreen, ShortBuffer, OutsidePlace, NoLine, NoBracket}
 use Rattle.model.specs.Model.{Model, text_of}
 use Rattle.model.specs.Edit.{edited_chunks}
 use Rattle.model.specs.Paint.{length_before}
@@ -107,3 +112,30 @@ range_refusal m from to cells =
 -- A buffer with the range's part of a list at its front; the rest stays.
 abbrev pub with_front : List ℕ → List ℕ → List ℕ
 with_front part buffer = part ++ drop (length part) buffer
+
+-- RANGE
+abbrev pub extent_refusal : Model → ℕ → ℕ → Option Refusal
+extent_refusal m from to = unless_outside m from to None
+
+-- PLACE and SAME take each place of the text, and its end.
+abbrev pub place_refusal : Model → ℕ → Option Refusal
+place_refusal m at = unless (nat_le at (length (text_of m))) (OutsidePlace at) None
+
+-- SAME: the bytes from a place on are the given ones; a text that ends before has fewer.
+abbrev pub begins : List ℕ → ℕ → List ℕ → Bool
+begins text at given = bytes_eq (between at (at + length given) text) given
+
+-- SPOT
+abbrev pub spot_refusal : Model → ℕ → Option Refusal
+spot_refusal m line = unless (nat_le line (line_ends (text_of m))) (NoLine line) None
+
+-- PARTNER
+abbrev pub partner_refusal : Automaton → Model → ℕ → Option Refusal
+partner_refusal a m at =
+    unless (nat_lt at (length (text_of m))) (OutsidePlace at)
+    (unless (is_live (role_at a (text_of m) at)) (NoBracket at) None)
+
+-- Whether a live bracket is there is told by readings. All other refusals are right whatever the readings are.
+abbrev pub but_bracket : Option Refusal → Option Refusal
+but_bracket (Some (NoBracket at)) = None
+but_bracket refused = refused

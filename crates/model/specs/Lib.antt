@@ -5,4 +5,5 @@ pub mod End
 pub mod Paint
 pub mod Model
 pub mod Calls
+pub mod Script
 pub mod Laws

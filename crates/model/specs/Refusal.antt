@@ -1,9 +1,9 @@
 -- What a refusal carries: its number, the layer that refuses, and a place.
 use Rattle.std.specs.Prelude.{ℕ}
 use Rattle.model.specs.declared.refusal.Refusal.{Refusal}
-use Rattle.model.specs.declared.refusal.Refusal.TheVariants.{OpenedBefore, SlotCount, LentLength, UnusableGrammar, DueStands, OutsideText, TooManyBytes, TooManyChunks, UnknownDue, ShortScreen, ShortBuffer}
+use Rattle.model.specs.declared.refusal.Refusal.TheVariants.{OpenedBefore, SlotCount, LentLength, UnusableGrammar, DueStands, OutsideText, TooManyBytes, TooManyChunks, UnknownDue, ShortScreen, ShortBuffer, OutsidePlace, NoLine, NoBracket, OutsidePart}
 use Rattle.model.specs.declared.refusal.Layer.{Layer}
-use Rattle.model.specs.declared.refusal.Layer.TheVariants.{Tree, Document}
+use Rattle.model.specs.declared.refusal.Layer.TheVariants.{Tree, Document, Script}
 
 abbrev pub number : Refusal → ℕ
 number OpenedBefore = 1
@@ -17,6 +17,10 @@ number (TooManyChunks chunks) = 8
 number (UnknownDue at) = 9
 number (ShortScreen cells) = 10
 number (ShortBuffer cells) = 11
+number (OutsidePlace at) = 12
+number (NoLine line) = 13
+number (NoBracket at) = 14
+number (OutsidePart end) = 15
 
 abbrev pub layer : Refusal → Layer
 layer OpenedBefore = Document
@@ -30,6 +34,10 @@ layer (TooManyChunks chunks) = Tree
 layer (UnknownDue at) = Document
 layer (ShortScreen cells) = Document
 layer (ShortBuffer cells) = Document
+layer (OutsidePlace at) = Document
+layer (NoLine line) = Document
+layer (NoBracket at) = Document
+layer (OutsidePart end) = Script
 
 abbrev pub place : Refusal → ℕ
 place OpenedBefore = 0
@@ -43,3 +51,7 @@ place (TooManyChunks chunks) = chunks
 place (UnknownDue at) = at
 place (ShortScreen cells) = cells
 place (ShortBuffer cells) = cells
+place (OutsidePlace at) = at
+place (NoLine line) = line
+place (NoBracket at) = at
+place (OutsidePart end) = end

@@ -6,8 +6,10 @@
 pub mod change;
 pub mod laws;
 pub mod refusal;
+pub mod replacement;
 pub mod run;
 
 pub use change::Change;
 pub use refusal::{Layer, Refusal};
+pub use replacement::Replacement;
 pub use run::Run;

@@ -26,6 +26,14 @@ pub enum Refusal {
     ShortScreen(u64),
     // TEXT, COLOURS: the buffer is too short for the range; its length.
     ShortBuffer(u64),
+    // PLACE, SAME: a place above the text's length; PARTNER: one that is not below it.
+    OutsidePlace(u64),
+    // SPOT: a line above the number of line ends.
+    NoLine(u64),
+    // PARTNER: no live bracket stands at the place.
+    NoBracket(u64),
+    // SCRIPT: a part that is none of the text given; its upper end.
+    OutsidePart(u64),
 }
 
 // The layer of the server that refuses.
@@ -33,6 +41,7 @@ pub enum Refusal {
 pub enum Layer {
     Tree,
     Document,
+    Script,
 }
 
 impl Refusal {
@@ -52,6 +61,10 @@ impl Refusal {
             Refusal::UnknownDue(_) => 9,
             Refusal::ShortScreen(_) => 10,
             Refusal::ShortBuffer(_) => 11,
+            Refusal::OutsidePlace(_) => 12,
+            Refusal::NoLine(_) => 13,
+            Refusal::NoBracket(_) => 14,
+            Refusal::OutsidePart(_) => 15,
         }
     }
 
@@ -70,7 +83,11 @@ impl Refusal {
             | Refusal::DueStands(_)
             | Refusal::UnknownDue(_)
             | Refusal::ShortScreen(_)
-            | Refusal::ShortBuffer(_) => Layer::Document,
+            | Refusal::ShortBuffer(_)
+            | Refusal::OutsidePlace(_)
+            | Refusal::NoLine(_)
+            | Refusal::NoBracket(_) => Layer::Document,
+            Refusal::OutsidePart(_) => Layer::Script,
         }
     }
 
@@ -88,7 +105,11 @@ impl Refusal {
             | Refusal::TooManyChunks(count)
             | Refusal::UnknownDue(count)
             | Refusal::ShortScreen(count)
-            | Refusal::ShortBuffer(count) => count,
+            | Refusal::ShortBuffer(count)
+            | Refusal::OutsidePlace(count)
+            | Refusal::NoLine(count)
+            | Refusal::NoBracket(count)
+            | Refusal::OutsidePart(count) => count,
         }
     }
 }

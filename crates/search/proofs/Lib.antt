@@ -1,2 +1,3 @@
 pub mod Forwards
 pub mod Backwards
+pub mod Places

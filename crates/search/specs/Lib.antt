@@ -1,3 +1,4 @@
 -- The manual, in this order.
 pub mod Forwards
 pub mod Backwards
+pub mod Places

@@ -6,15 +6,15 @@ use Rattle.chunks.specs.Tree.{Tree, node}
 use Rattle.search.specs.declared.stop.Stop.{Stop}
 use Rattle.search.specs.Forwards.{shifted}
 use Rattle.search.specs.Backwards.{forwards, back_stop}
-use Rattle.search.proofs.Backwards.{forwards_append, stops_behind, goes_before, state_behind, back_few}
+use Rattle.search.proofs.Backwards.{forwards_append, stops_behind, goes_before, state_behind}
 use Rattle.measure.specs.Measure.{Measure}
 use Rattle.slots.specs.Claim.{kept}
-use Rattle.slots.specs.Holds.{Holds}
+use Rattle.slots.specs.Holds.{Holds, Owned}
 use Rattle.slots.specs.Split.{Held}
 use Rattle.slots.specs.View.{text_of, chunk_of, size_of}
 use Rattle.slots.proofs.Text.{chunk_length}
 use Rattle.slots.specs.declared.memory.Memory.{Memory}
-use Rattle.seek.proofs.Kept.{text_parts, Opened, kept_left, kept_right}
+use Rattle.seek.proofs.Kept.{text_parts, Opened, kept_left, kept_own, kept_right}
 use Rattle.seek.proofs.Descent.{text_few}
 
 -- A place behind the end of a list is as good as the end.
@@ -68,14 +68,42 @@ module _ {R : Type 0} (m : Memory R) (t l : Tree) (i : ℕ) (r : Tree) (is : t �
         ∙ ap (λ z. at (forwards fore f z) (take (place - behind) ys)) front
         ∙ ap (λ z. at z (take (place - behind) ys)) (forwards_append fore f (take place xs) (take (place - before) cs))
 
--- What a search through a tree's text from a place back came to: within it, and where it should, as long as the readings are kept.
-pub record FoundBack {R F A : Type 0} (m : Memory R) (μ : Measure R) (fore : F → ℕ → F) (back : F → ℕ → A → Option A) (f : F) (place : ℕ) (a : A) (t : Tree) (s : Stop A) : Type 0 where
-  pub within : s.passed ≤ length (take place (text_of m t))
-  pub finds : Holds (kept μ) m t → s ≡ back_stop fore back f (take place (text_of m t)) a
+-- What a search through a text from behind came to: within it, and where it should, as long as readings are kept.
+pub record FoundBack {F A : Type 0} (Keeps : Type 0) (fore : F → ℕ → F) (back : F → ℕ → A → Option A) (f : F) (text : List ℕ) (a : A) (s : Stop A) : Type 0 where
+  pub within : s.passed ≤ length text
+  pub finds : Keeps → s ≡ back_stop fore back f text a
 
--- A search under slot i, step by step, as it is said of every tree that memory may hold there: `inner` and `outer` are the
--- forward states before the slot's own chunk and behind it.
-module _ {R F A : Type 0} (m : Memory R) (μ : Measure R) (fore : F → ℕ → F) (back : F → ℕ → A → Option A) (f : F) (a : A) (place i : ℕ) (left right link : Option ℕ) (opens : (z : Tree) → Held m link z → Opened m i left right z) (before size : ℕ) (before-is : (z : Tree) → Held m left z → before ≡ length (text_of m z)) (size_is : size ≡ size_of m i) (inner outer : F) (inner-is : (z : Tree) → Held m left z → Holds (kept μ) m z → inner ≡ forwards fore f (text_of m z)) (outer-is : outer ≡ forwards fore inner (chunk_of m i)) (beyond : ℕ) (beyond-is : beyond ≡ place - (before + size)) (rest : Stop A) (on_right : (z : Tree) → Held m right z → FoundBack m μ fore back outer beyond a z rest) where
+-- What a search came to in a tree's text up to a place; in slot i's own chunk; and in the text of a tree on its right, where
+-- it begins with the state behind the chunk.
+module _ {R F A : Type 0} (m : Memory R) (μ : Measure R) (fore : F → ℕ → F) (back : F → ℕ → A → Option A) where
+  abbrev pub FoundUnder : F → ℕ → A → Tree → Stop A → Type 0
+  FoundUnder f place a t s = FoundBack (Holds (kept μ) m t) fore back f (take place (text_of m t)) a s
+
+  abbrev pub FoundInside : ℕ → F → ℕ → A → Stop A → Type 0
+  FoundInside i inner place a s = FoundBack (Owned (kept μ) m i) fore back inner (take place (chunk_of m i)) a s
+
+  abbrev pub FoundRight : ℕ → F → ℕ → A → Tree → Stop A → Type 0
+  FoundRight i inner place a t s = FoundBack (Owned (kept μ) m i × Holds (kept μ) m t) fore back (forwards fore inner (chunk_of m i)) (take place (text_of m t)) a s
+
+  module _ (i : ℕ) (inner : F) (place behind : ℕ) (a : A) (z : Tree) (rest : Stop A) where
+    -- With no byte before the place on the right there is nothing to run through.
+    pub right_none : place ≤ behind → rest ≡ record { passed = 0; at = a; stopped = false } → FoundRight i inner (place - behind) a z rest
+    right_none short rest-is =
+        let none : place - behind ≡ 0 = omega arith in
+        record {
+          within = omega (arith, ap (λ s. s.passed) rest-is);
+          finds = λ k. rest-is ∙ ap (λ n. back_stop fore back (forwards fore inner (chunk_of m i)) (take n (text_of m z)) a) (sym none);
+        }
+
+    pub right_sought : (outer : F) → (Owned (kept μ) m i → outer ≡ forwards fore inner (chunk_of m i)) → (sought : Stop A) → FoundUnder outer (place - behind) a z sought → rest ≡ sought → FoundRight i inner (place - behind) a z rest
+    right_sought outer outer-is sought found rest-is = record {
+      within = omega (arith, ap (λ s. s.passed) rest-is, found.within);
+      finds = λ k. rest-is ∙ found.finds k.1 ∙ ap (λ s. back_stop fore back s (take (place - behind) (text_of m z)) a) (outer-is k.0);
+    }
+
+-- A search under slot i, step by step, as it is said of every tree that memory may hold there: `inner` is the forward state
+-- before the slot's own chunk.
+module _ {R F A : Type 0} (m : Memory R) (μ : Measure R) (fore : F → ℕ → F) (back : F → ℕ → A → Option A) (f : F) (a : A) (place i : ℕ) (left right link : Option ℕ) (opens : (z : Tree) → Held m link z → Opened m i left right z) (before size : ℕ) (before-is : (z : Tree) → Held m left z → before ≡ length (text_of m z)) (size_is : size ≡ size_of m i) (inner : F) (inner-is : (z : Tree) → Held m left z → Holds (kept μ) m z → inner ≡ forwards fore f (text_of m z)) (rest : Stop A) (on_right : (z : Tree) → Held m right z → FoundRight m μ fore back i inner (place - (before + size)) a z rest) where
   module _ (z : Tree) (held : Held m link z) where
     abbrev o : Opened m i left right z
     o = opens z held
@@ -107,30 +135,26 @@ module _ {R F A : Type 0} (m : Memory R) (μ : Measure R) (fore : F → ℕ → 
     known : Holds (kept μ) m z → inner ≡ forwards fore f (text_of m o.l)
     known k = inner-is o.l o.left_held (kept_left μ o k)
 
-    rest_short : rest.passed ≤ length ys
-    rest_short = subst (λ n. rest.passed ≤ length (take n (text_of m o.r))) beyond-is (on_right o.r o.right_held).within
-
     rest_finds : Holds (kept μ) m z → rest ≡ back_stop fore back (forwards fore (forwards fore f xs) cs) ys a
     rest_finds k =
-        (on_right o.r o.right_held).finds (kept_right μ o k)
-        ∙ ap (λ n. back_stop fore back outer (take n (text_of m o.r)) a) beyond-is
-        ∙ ap (λ s. back_stop fore back s ys a) (outer-is ∙ ap (λ s. forwards fore s (chunk_of m i)) (known k))
+        (on_right o.r o.right_held).finds (kept_own μ o k, kept_right μ o k)
+        ∙ ap (λ s. back_stop fore back (forwards fore s (chunk_of m i)) ys a) (known k)
         ∙ state_right m z o.l i o.r o.is place before (before + size) starts ends fore back f a
 
-    pub stopped_right : rest.stopped ≡ true → FoundBack m μ fore back f place a z rest
+    pub stopped_right : rest.stopped ≡ true → FoundUnder m μ fore back f place a z rest
     stopped_right stopped = record {
-      within = omega (arith, rest_short, long);
+      within = omega (arith, (on_right o.r o.right_held).within, long);
       finds = λ k.
           let found = stops_behind fore back (forwards fore f xs) cs ys a rest (rest_finds k) stopped in
           stops_behind fore back f xs (cs ++ ys) a rest found stopped ∙ ap (λ l. back_stop fore back f l a) (sym parts);
     }
 
-  module _ (running : rest.stopped ≡ false) (within : ℕ) (within-is : within ≡ place - before) (inside : Stop A) (inside_is : inside ≡ back_stop fore back inner (take within (chunk_of m i)) rest.at) where
-    here : inside ≡ back_stop fore back inner (take (place - before) (chunk_of m i)) rest.at
-    here = inside_is ∙ ap (λ n. back_stop fore back inner (take n (chunk_of m i)) rest.at) within-is
+  module _ (running : rest.stopped ≡ false) (within : ℕ) (within-is : within ≡ place - before) (inside : Stop A) (on-own : FoundInside m μ fore back i inner within rest.at inside) where
+    here : FoundInside m μ fore back i inner (place - before) rest.at inside
+    here = subst (λ n. FoundInside m μ fore back i inner n rest.at inside) within-is on-own
 
     own_short : (z : Tree) (held : Held m link z) → rest.passed + inside.passed ≤ length (cs z held) + length (ys z held)
-    own_short z held = omega (arith, ap (λ s. s.passed) here, back_few fore back inner (take (place - before) (chunk_of m i)) rest.at, rest_short z held)
+    own_short z held = let o = opens z held in omega (arith, here.within, (on_right o.r o.right_held).within)
 
     -- All that is passed lies in the text, which is short.
     pub own_fits : (z : Tree) → Held m link z → rest.passed + inside.passed < 2 ^ 64
@@ -140,17 +164,17 @@ module _ {R F A : Type 0} (m : Memory R) (μ : Measure R) (fore : F → ℕ → 
       own_finds : (z : Tree) (held : Held m link z) → Holds (kept μ) m z → own ≡ back_stop fore back (forwards fore f (xs z held)) (cs z held ++ ys z held) a
       own_finds z held k =
           let o = opens z held in
-          let found = here ∙ ap (λ s. back_stop fore back s (cs z held) rest.at) (known z held k) ∙ state_own m z o.l i o.r o.is place before (before + size) (starts z held) (ends z held) fore back f rest.at in
+          let found = here.finds (kept_own μ o k) ∙ ap (λ s. back_stop fore back s (cs z held) rest.at) (known z held k) ∙ state_own m z o.l i o.r o.is place before (before + size) (starts z held) (ends z held) fore back f rest.at in
           own_is ∙ ap (shifted rest.passed) found ∙ goes_before fore back (forwards fore f (xs z held)) (cs z held) (ys z held) a rest (rest_finds z held k) running
 
-      pub stopped_inside : own.stopped ≡ true → (z : Tree) → Held m link z → FoundBack m μ fore back f place a z own
+      pub stopped_inside : own.stopped ≡ true → (z : Tree) → Held m link z → FoundUnder m μ fore back f place a z own
       stopped_inside stopped z held = record {
         within = omega (arith, ap (λ s. s.passed) own_is, own_short z held, long z held);
         finds = λ k. stops_behind fore back f (xs z held) (cs z held ++ ys z held) a own (own_finds z held k) stopped ∙ ap (λ l. back_stop fore back f l a) (sym (parts z held));
       }
 
-      module _ (goes : own.stopped ≡ false) (first : Stop A) (on-left : (z : Tree) → Held m left z → FoundBack m μ fore back f place own.at z first) where
-        pub found_all : (all : Stop A) → all ≡ shifted own.passed first → (z : Tree) → Held m link z → FoundBack m μ fore back f place a z all
+      module _ (goes : own.stopped ≡ false) (first : Stop A) (on-left : (z : Tree) → Held m left z → FoundUnder m μ fore back f place own.at z first) where
+        pub found_all : (all : Stop A) → all ≡ shifted own.passed first → (z : Tree) → Held m link z → FoundUnder m μ fore back f place a z all
         found_all all all-is z held =
             let o = opens z held in
             let found = on-left o.l o.left_held in

@@ -6,16 +6,16 @@ use Rattle.chunks.specs.Tree.{Tree, node, slots}
 use Rattle.chunks.proofs.Footprint.{few_below}
 use Rattle.search.specs.declared.stop.Stop.{Stop}
 use Rattle.search.specs.Forwards.{shifted, stop}
-use Rattle.search.proofs.Forwards.{stops_at, stops_before, goes_behind}
+use Rattle.search.proofs.Forwards.{stops_before, goes_behind}
 use Rattle.measure.specs.Measure.{Measure}
 use Rattle.slots.specs.Claim.{nothing, kept}
-use Rattle.slots.specs.Holds.{Holds}
+use Rattle.slots.specs.Holds.{Holds, Owned}
 use Rattle.slots.specs.Split.{Held}
 use Rattle.slots.specs.View.{text_of, chunk_of, size_of}
 use Rattle.slots.proofs.Holds.{short_held}
 use Rattle.slots.proofs.Text.{chunk_length}
 use Rattle.slots.specs.declared.memory.Memory.{Memory}
-use Rattle.seek.proofs.Kept.{text_parts, Opened, kept_left, kept_right}
+use Rattle.seek.proofs.Kept.{text_parts, Opened, kept_left, kept_own, kept_right}
 
 -- A text in memory is short.
 pub text_few : {R : Type 0} (m : Memory R) (link : Option ℕ) (t : Tree) → Held m link t → length (text_of m t) ≤ 64 * 4096
@@ -80,16 +80,16 @@ module _ {R A : Type 0} {m : Memory R} (μ : Measure R) (next : A → ℕ → Op
           stops_before next at (xs ++ cs) ys first found stopped ∙ ap (stop next at) (sym parts);
     }
 
-    module _ (running : first.stopped ≡ false) (own : Stop A) (own_is : own ≡ shifted first.passed (stop next first.at cs)) where
+    module _ (running : first.stopped ≡ false) (inside : Stop A) (inside_within : inside.passed ≤ length cs) (inside_finds : Holds (kept μ) m t → inside ≡ stop next first.at cs) (own : Stop A) (own_is : own ≡ shifted first.passed inside) where
       -- It runs through the first part, and stops in the second or goes on.
       own_short : own.passed ≤ length xs + length cs
-      own_short = omega (arith, ap (λ s. s.passed) own_is, (stops_at next first.at cs).within, on-left.within)
+      own_short = omega (arith, ap (λ s. s.passed) own_is, inside_within, on-left.within)
 
       own_few : own.passed ≤ length whole
       own_few = omega (arith, own_short, long)
 
       own_finds : Holds (kept μ) m t → own ≡ stop next at (xs ++ cs)
-      own_finds k = own_is ∙ goes_behind next at xs cs first (on-left.finds (kept_left μ o k)) running
+      own_finds k = own_is ∙ ap (shifted first.passed) (inside_finds k) ∙ goes_behind next at xs cs first (on-left.finds (kept_left μ o k)) running
 
       own_stops : own.stopped ≡ true → Found m μ next at place t own
       own_stops stopped = record {
@@ -115,22 +115,26 @@ module _ {R A : Type 0} (m : Memory R) (μ : Measure R) (next : A → ℕ → Op
       let o = opens z held in
       first_stops μ next at place o (length (text_of m o.l)) (length (text_of m o.l) + length (chunk_of m i)) refl refl first (on-left o.l o.left_held) stopped
 
-  module _ (running : first.stopped ≡ false) (before inner : ℕ) (before-is : (z : Tree) → Held m left z → before ≡ length (text_of m z)) (inner-is : inner ≡ place - before) (inside : Stop A) (inside_is : inside ≡ stop next first.at (drop inner (chunk_of m i))) where
-    shifts : (own : Stop A) → own ≡ shifted first.passed inside → own ≡ shifted first.passed (stop next first.at (drop (place - before) (chunk_of m i)))
-    shifts own e = e ∙ ap (shifted first.passed) (inside_is ∙ ap (λ n. stop next first.at (drop n (chunk_of m i))) inner-is)
+  module _ (running : first.stopped ≡ false) (before inner : ℕ) (before-is : (z : Tree) → Held m left z → before ≡ length (text_of m z)) (inner-is : inner ≡ place - before) (inside : Stop A) (inside_within : inside.passed ≤ length (drop inner (chunk_of m i)))
+      (inside_finds : Owned (kept μ) m i → inside ≡ stop next first.at (drop inner (chunk_of m i))) where
+    chunk_within : inside.passed ≤ length (drop (place - before) (chunk_of m i))
+    chunk_within = omega (arith, inside_within, ap (λ n. length (drop n (chunk_of m i))) inner-is)
+
+    chunk_finds : (z : Tree) → Held m link z → Holds (kept μ) m z → inside ≡ stop next first.at (drop (place - before) (chunk_of m i))
+    chunk_finds z held k = inside_finds (kept_own μ (opens z held) k) ∙ ap (λ n. stop next first.at (drop n (chunk_of m i))) inner-is
 
     -- All that is passed lies in the text, which is short.
     pub own_fits : (z : Tree) → Held m link z → first.passed + inside.passed < 2 ^ 64
     own_fits z held =
         let o = opens z held in
         let own = shifted first.passed inside in
-        omega (arith, own_few μ next at place o before (before + length (chunk_of m i)) (before-is o.l o.left_held) refl first (on-left o.l o.left_held) running own (shifts own refl), length-drop place (text_of m z), text_few m link z held)
+        omega (arith, own_few μ next at place o before (before + length (chunk_of m i)) (before-is o.l o.left_held) refl first (on-left o.l o.left_held) running inside chunk_within (chunk_finds z held) own refl, length-drop place (text_of m z), text_few m link z held)
 
     module _ (own : Stop A) (own_is : own ≡ shifted first.passed inside) where
       pub stopped_inside : own.stopped ≡ true → (z : Tree) → Held m link z → Found m μ next at place z own
       stopped_inside stopped z held =
           let o = opens z held in
-          own_stops μ next at place o before (before + length (chunk_of m i)) (before-is o.l o.left_held) refl first (on-left o.l o.left_held) running own (shifts own own_is) stopped
+          own_stops μ next at place o before (before + length (chunk_of m i)) (before-is o.l o.left_held) refl first (on-left o.l o.left_held) running inside chunk_within (chunk_finds z held) own own_is stopped
 
       module _ (goes : own.stopped ≡ false) (size outer : ℕ) (size_is : size ≡ size_of m i) (outer-is : outer ≡ place - (before + size)) (rest : Stop A) (on_right : (z : Tree) → Held m right z → Found m μ next own.at outer z rest) where
         pub found_all : (all : Stop A) → all ≡ shifted own.passed rest → (z : Tree) → Held m link z → Found m μ next at place z all
@@ -138,7 +142,7 @@ module _ {R A : Type 0} (m : Memory R) (μ : Measure R) (next : A → ℕ → Op
             let o = opens z held in
             let behind-is : before + size ≡ before + length (chunk_of m i) = ap (λ n. before + n) (size_is ∙ sym (chunk_length m held.roomy i o.known o.few_bytes)) in
             let right-found = subst (λ n. Found m μ next own.at n o.r rest) outer-is (on_right o.r o.right_held) in
-            all_found μ next at place o before (before + size) (before-is o.l o.left_held) behind-is first (on-left o.l o.left_held) running own (shifts own own_is) goes rest all all-is right-found
+            all_found μ next at place o before (before + size) (before-is o.l o.left_held) behind-is first (on-left o.l o.left_held) running inside chunk_within (chunk_finds z held) own own_is goes rest all all-is right-found
 
         pub all_fits : (z : Tree) → Held m link z → own.passed + rest.passed < 2 ^ 64
         all_fits z held = omega (arith, (found_all (shifted own.passed rest) refl z held).within, length-drop place (text_of m z), text_few m link z held)

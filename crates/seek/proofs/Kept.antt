@@ -5,7 +5,7 @@ use Rattle.chunks.specs.Sides.{around}
 use Rattle.chunks.specs.Tree.{Tree, leaf, node, root, height}
 use Rattle.measure.specs.Measure.{Measure, reading}
 use Rattle.slots.specs.Claim.{nothing, kept}
-use Rattle.slots.specs.Holds.{Holds}
+use Rattle.slots.specs.Holds.{Holds, Owned}
 use Rattle.slots.specs.Split.{Held}
 use Rattle.slots.specs.View.{text_of, chunk_of, size_of, height_at}
 use Rattle.slots.proofs.Joining.{height_held, node_higher}
@@ -59,3 +59,7 @@ module _ {R : Type 0} (μ : Measure R) {m : Memory R} {i : ℕ} {left right : Op
 
   pub kept_right : Holds (kept μ) m t → Holds (kept μ) m o.r
   kept_right h = (subst (λ (z : Tree). Holds (kept μ) m z) o.is h).1.1
+
+  -- The slot at the top keeps the reading of its own chunk.
+  pub kept_own : Holds (kept μ) m t → Owned (kept μ) m i
+  kept_own h = let here = (subst (λ (z : Tree). Holds (kept μ) m z) o.is h).0 in record { own = λ d. (here.placed d).own }

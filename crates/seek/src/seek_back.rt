@@ -4,14 +4,14 @@ ghost use Rattle.chunks.specs.Tree.{Tree};
 ghost use Rattle.measure.specs.Measure.{reading as reading_of};
 ghost use Rattle.search.specs.Backwards.{forwards, back_stop};
 ghost use Rattle.slots.specs.Claim.{kept};
-ghost use Rattle.slots.specs.Holds.{Holds};
+ghost use Rattle.slots.specs.Holds.{Holds, Owned};
 ghost use Rattle.slots.specs.Sound.{Sound, Kept, tree_of};
 ghost use Rattle.slots.specs.Split.{Held};
 ghost use Rattle.slots.specs.View.{chunk_of, size_of, text_of, Roomy};
 ghost use Rattle.seek.specs.Passes.{PassesBack};
 
 use crate::backward::Backward;
-use crate::seek_bytes_back::{ahead_of_bytes, seek_bytes_back};
+use crate::seek_bytes_back::seek_bytes_back;
 use crate::seek_tree::{chunk, further, nowhere};
 use balance::join::child;
 use balance::link::extent;
@@ -37,7 +37,21 @@ fn ahead_under<R: Copy, S: Backward<Reading = R>>(
     }
 }
 
-// Where the search comes to in a slot's own chunk, from a place in it back.
+// The forward state behind a slot's own chunk.
+fn ahead_over_own<R: Copy, S: Backward<Reading = R>>(
+    search: &S,
+    memory: &Memory<R>,
+    i: u16,
+    state: S::Fore,
+) -> S::Fore
+    requires { (Roomy memory.now) × (i < memory.now.usable) }
+    ensures { Owned (kept (S.scale search.now)) memory.now i → result ≡ forwards (S.fore search.now) state (chunk_of memory.now i) }
+{
+    let slots = &*memory.slots;
+    search.ahead_over(state, &slots[i as usize].own)
+}
+
+// Where the search comes to in a slot's own chunk, from a place in it back: by its kept reading where all of it is asked for.
 fn seek_own_back<R: Copy, S: Backward<Reading = R>>(
     search: &S,
     memory: &Memory<R>,
@@ -47,9 +61,20 @@ fn seek_own_back<R: Copy, S: Backward<Reading = R>>(
     at: S::At,
 ) -> Stop<S::At>
     requires { (Roomy memory.now) × ((i < memory.now.usable) × (size_of memory.now i ≤ 64)) }
-    ensures { result ≡ back_stop (S.fore search.now) (S.back search.now) state (take place (chunk_of memory.now i)) at }
+    ensures within { result.passed ≤ length (take place (chunk_of memory.now i)) }
+    ensures finds { Owned (kept (S.scale search.now)) memory.now i → result ≡ back_stop (S.fore search.now) (S.back search.now) state (take place (chunk_of memory.now i)) at }
 {
     let bytes = chunk(memory, i);
+    if place >= bytes.len() {
+        let slots = &*memory.slots;
+        if let Some(before) = search.pass_back(state, &slots[i as usize].own, at) {
+            return Stop {
+                passed: bytes.len(),
+                at: before,
+                stopped: false,
+            };
+        }
+    }
     let to = place.min(bytes.len());
     seek_bytes_back(search, state, &bytes[0..to], at)
 }
@@ -106,26 +131,17 @@ pub fn seek_back<R: Copy, S: Backward<Reading = R>>(
     let before = extent(memory, left).bytes as usize;
     let behind = before + chunk_length(memory, i) as usize;
     let inner = ahead_under(search, memory, left, state);
-    let outer = ahead_of_bytes(search, inner, chunk(memory, i));
-    let rest = seek_back(
-        search,
-        memory,
-        right,
-        outer,
-        place.saturating_sub(behind),
-        at,
-    );
+    let rest = if place > behind {
+        let outer = ahead_over_own(search, memory, i, inner);
+        seek_back(search, memory, right, outer, place - behind, at)
+    } else {
+        nowhere(at)
+    };
     if rest.stopped {
         return rest;
     }
-    let inside = seek_own_back(
-        search,
-        memory,
-        i,
-        inner,
-        place.saturating_sub(before),
-        rest.at,
-    );
+    let within = place.saturating_sub(before);
+    let inside = seek_own_back(search, memory, i, inner, within, rest.at);
     let own = further(rest.passed, inside);
     if own.stopped {
         return own;

@@ -5,7 +5,7 @@ ghost use Rattle.seek.specs.Passes.{Passes};
 ghost use Rattle.chunks.specs.Tree.{Tree};
 ghost use Rattle.search.specs.Forwards.{stop, shifted};
 ghost use Rattle.slots.specs.Claim.{kept};
-ghost use Rattle.slots.specs.Holds.{Holds};
+ghost use Rattle.slots.specs.Holds.{Holds, Owned};
 ghost use Rattle.slots.specs.Sound.{Sound, Kept, tree_of};
 ghost use Rattle.slots.specs.Split.{Held};
 ghost use Rattle.slots.specs.View.{chunk_of, size_of, text_of, Roomy};
@@ -52,7 +52,7 @@ pub(crate) fn nowhere<A: Copy>(at: A) -> Stop<A>
     }
 }
 
-// Where the search comes to in a slot's own chunk, from a place in it on.
+// Where the search comes to in a slot's own chunk, from a place in it on: by the chunk's reading, where all of it is asked for.
 fn seek_own<R: Copy, S: Forward<Reading = R>>(
     search: &S,
     memory: &Memory<R>,
@@ -61,9 +61,20 @@ fn seek_own<R: Copy, S: Forward<Reading = R>>(
     at: S::At,
 ) -> Stop<S::At>
     requires { (Roomy memory.now) × ((i < memory.now.usable) × (size_of memory.now i ≤ 64)) }
-    ensures { result ≡ stop (S.goes search.now) at (drop place (chunk_of memory.now i)) }
+    ensures within { result.passed ≤ length (drop place (chunk_of memory.now i)) }
+    ensures finds { Owned (kept (S.scale search.now)) memory.now i → result ≡ stop (S.goes search.now) at (drop place (chunk_of memory.now i)) }
 {
     let bytes = chunk(memory, i);
+    if place == 0 {
+        let slots = &*memory.slots;
+        if let Some(behind) = search.pass(at, &slots[i as usize].own) {
+            return Stop {
+                passed: bytes.len(),
+                at: behind,
+                stopped: false,
+            };
+        }
+    }
     let from = place.min(bytes.len());
     seek_bytes(search, at, &bytes[from..])
 }

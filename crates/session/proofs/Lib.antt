@@ -1,3 +1,3 @@
-pub mod ReadBack
-pub mod Numbers
 pub mod LineBack
+pub mod Splitting
+pub mod ScriptBack

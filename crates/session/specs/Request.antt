@@ -1,26 +1,24 @@
 -- What a line asks: the name of a call, and what belongs to it. A line with no word, or that begins with #, is passed over.
-use Rattle.std.specs.Prelude.{ℕ, cond, Bool, List, [], ◌∷◌, length, Some, None, Option, Ok, Err, ◌==◌}
+use Rattle.std.specs.Prelude.{ℕ, cond, List, [], ◌∷◌, Some, None, Option, Ok, Err, ◌==◌}
 use Rattle.std.specs.Option.{ok_or}
 use Rattle.model.specs.declared.change.Change.{Change}
-use Rattle.session.specs.Words.{word, behind}
-use Rattle.session.specs.Number.{number_of}
-use Rattle.session.specs.Bytes.{bytes_of}
+use Rattle.notation.specs.Words.{word, behind, is_over}
+use Rattle.notation.specs.Number.{number_of}
+use Rattle.notation.specs.Bytes.{bytes_then, bytes_of}
+use Rattle.session.specs.Records.{records_of}
 use Rattle.session.specs.Names.{named}
 use Rattle.session.specs.Asked.{Asked, Reading}
-use Rattle.session.specs.Asked.{PassedOver, Open, Edit, Paint, Close, Text, Colours, Size, Screen}
+use Rattle.session.specs.Asked.{PassedOver, Open, Edit, Paint, Close, Text, Colours, Size, Screen, Script, Range, Same, Place, Spot, Partner}
 use Rattle.session.specs.declared.call_name.CallName.{CallName}
 use Rattle.session.specs.declared.call_name.CallName.TheVariants as name
-use Rattle.session.specs.declared.problem.Problem.TheVariants.{UnknownCall, Number, Bytes, LeftOver}
+use Rattle.session.specs.declared.problem.Problem.TheVariants.{UnknownCall, Number, Bytes, Record, LeftOver}
 
 -- What is read, and then more with it; the first problem is the one that is told.
 abbrev pub and_then : {T U : Type 0} → Reading T → (T → Reading U) → Reading U
 and_then (Err problem) go = Err problem
 and_then (Ok x) go = go x
 
--- No word is left.
-abbrev pub is_over : List ℕ → Bool
-is_over left = length (word left) == 0
-
+-- No word is left behind what was read.
 abbrev pub if_over : {T : Type 0} → List ℕ → T → Reading T
 if_over left x = cond (is_over left) (Ok x) (Err LeftOver)
 
@@ -51,6 +49,21 @@ abbrev pub edit_in : List ℕ → Reading Asked
 edit_in left =
     and_then (range_in left) (λ range. and_then (ok_or (bytes_of (behind (behind left))) Bytes) (λ bytes. Ok (Edit range.0 range.1 bytes)))
 
+-- The text of a script, and its records behind it.
+abbrev pub script_in : List ℕ → Reading Asked
+script_in left =
+    and_then (ok_or (bytes_then left) Bytes) (λ text. and_then (ok_or (records_of text.1) Record) (λ records. Ok (Script text.0 records)))
+
+abbrev pub same_in : List ℕ → Reading Asked
+same_in left = and_then (number_in left) (λ place. and_then (ok_or (bytes_of (behind left)) Bytes) (λ bytes. Ok (Same place bytes)))
+
+-- One number and no more, and two.
+abbrev pub with_number : (ℕ → Asked) → List ℕ → Reading Asked
+with_number ask left = and_then (number_in left) (λ n. if_over (behind left) (ask n))
+
+abbrev pub with_numbers : (ℕ → ℕ → Asked) → List ℕ → Reading Asked
+with_numbers ask left = and_then (range_in left) (λ ns. if_over (behind (behind left)) (ask ns.0 ns.1))
+
 -- What belongs to each call.
 abbrev pub call_in : CallName → List ℕ → Reading Asked
 call_in name.Open left = if_over left Open
@@ -61,6 +74,12 @@ call_in name.Text left = with_room Text left
 call_in name.Colours left = with_room Colours left
 call_in name.Size left = if_over left Size
 call_in name.Screen left = and_then (last_number left) (λ cells. Ok (Screen cells))
+call_in name.Script left = script_in left
+call_in name.Range left = with_numbers Range left
+call_in name.Same left = same_in left
+call_in name.Place left = with_number Place left
+call_in name.Spot left = with_numbers Spot left
+call_in name.Partner left = with_number Partner left
 
 abbrev pub request_at : List ℕ → List ℕ → Reading Asked
 request_at [] left = Ok PassedOver

@@ -12,6 +12,12 @@ pub enum CallName {
     Colours,
     Size,
     Screen,
+    Script,
+    Range,
+    Same,
+    Place,
+    Spot,
+    Partner,
 }
 
 pub(crate) fn call_name(word: &[u8]) -> Option<CallName>
@@ -26,6 +32,12 @@ pub(crate) fn call_name(word: &[u8]) -> Option<CallName>
         b"colours" => Some(CallName::Colours),
         b"size" => Some(CallName::Size),
         b"screen" => Some(CallName::Screen),
+        b"script" => Some(CallName::Script),
+        b"range" => Some(CallName::Range),
+        b"same" => Some(CallName::Same),
+        b"place" => Some(CallName::Place),
+        b"spot" => Some(CallName::Spot),
+        b"partner" => Some(CallName::Partner),
         _ => None,
     }
 }

@@ -9,6 +9,8 @@ pub enum Problem {
     Number,
     // Bytes that are missing, or are not written as wanted.
     Bytes,
+    // A word behind a script's text that is none of its records.
+    Record,
     // Words behind the call.
     LeftOver,
 }
@@ -22,6 +24,8 @@ impl Problem {
             Problem::Number => "a number from 0 to 4294967295 is wanted",
             Problem::Bytes =>
                 "bytes are wanted, as x and pairs of hexadecimal digits or as text in quotes",
+            Problem::Record =>
+                "records are wanted as four numbers with commas between, FROM,TO,START,END",
             Problem::LeftOver => "words are left over behind the call",
         }
     }

@@ -1,23 +1,17 @@
 // Reads what a line asks.
 ghost use Rattle.std.specs.Prelude.{◌≡◌, IfOk};
 ghost use Rattle.session.specs.Asked.{meaning, asked};
-ghost use Rattle.session.specs.Request.{is_over as is_over_at, if_over, number_in as number_of_next, range_in as range_of_next, last_number as last_number_of, due_in as due_of_next, call_in, request_of};
+ghost use Rattle.session.specs.Request.{if_over, number_in as number_of_next, range_in as range_of_next, last_number as last_number_of, due_in as due_of_next, call_in, request_of};
 
-use crate::bytes::bytes;
 use crate::call_name::{CallName, call_name};
-use crate::number::number;
 use crate::problem::Problem;
+use crate::records::records;
 use crate::request::Request;
-use crate::words::{behind, word};
 use model::Change;
+use notation::bytes::{bytes, bytes_then};
+use notation::number::number;
+use notation::words::{behind, is_over, word};
 use std::alloc::{AllocError, Global};
-
-// No word is left.
-fn is_over(left: &[u8]) -> bool
-    ensures { result ≡ is_over_at left.now }
-{
-    word(left).is_empty()
-}
 
 // The request, if no word is left.
 fn alone(request: Request, left: &[u8]) -> Result<Request, Problem>
@@ -125,6 +119,59 @@ fn edit_in(heap: Global, left: &[u8]) -> Result<Result<Request, Problem>, AllocE
     }
 }
 
+fn script_in(heap: Global, left: &[u8]) -> Result<Result<Request, Problem>, AllocError>
+    ensures { IfOk result (λ r. meaning r ≡ call_in CallName.Script left.now) }
+{
+    let Some((text, left)) = bytes_then(heap, left)? else {
+        return Ok(Err(Problem::Bytes));
+    };
+    match records(heap, left)? {
+        Some(records) => Ok(Ok(Request::Script { text, records })),
+        None => Ok(Err(Problem::Record)),
+    }
+}
+
+fn same_in(heap: Global, left: &[u8]) -> Result<Result<Request, Problem>, AllocError>
+    ensures { IfOk result (λ r. meaning r ≡ call_in CallName.Same left.now) }
+{
+    let place = match number_in(left) {
+        Ok(place) => place,
+        Err(problem) => return Ok(Err(problem)),
+    };
+    match bytes(heap, behind(left))? {
+        Some(bytes) => Ok(Ok(Request::Same { place, bytes })),
+        None => Ok(Err(Problem::Bytes)),
+    }
+}
+
+fn range_call_in(left: &[u8]) -> Result<Request, Problem>
+    ensures { meaning result ≡ call_in CallName.Range left.now }
+{
+    let (from, to) = range_in(left)?;
+    alone(Request::Range { from, to }, behind(behind(left)))
+}
+
+fn place_in(left: &[u8]) -> Result<Request, Problem>
+    ensures { meaning result ≡ call_in CallName.Place left.now }
+{
+    let place = number_in(left)?;
+    alone(Request::Place(place), behind(left))
+}
+
+fn spot_in(left: &[u8]) -> Result<Request, Problem>
+    ensures { meaning result ≡ call_in CallName.Spot left.now }
+{
+    let (line, column) = range_in(left)?;
+    alone(Request::Spot { line, column }, behind(behind(left)))
+}
+
+fn partner_in(left: &[u8]) -> Result<Request, Problem>
+    ensures { meaning result ≡ call_in CallName.Partner left.now }
+{
+    let place = number_in(left)?;
+    alone(Request::Partner(place), behind(left))
+}
+
 // What belongs to a call.
 fn read_call(
     heap: Global,
@@ -142,6 +189,12 @@ fn read_call(
         CallName::Colours => Ok(colours_in(left)),
         CallName::Size => Ok(alone(Request::Size, left)),
         CallName::Screen => Ok(screen_in(left)),
+        CallName::Script => script_in(heap, left),
+        CallName::Range => Ok(range_call_in(left)),
+        CallName::Same => same_in(heap, left),
+        CallName::Place => Ok(place_in(left)),
+        CallName::Spot => Ok(spot_in(left)),
+        CallName::Partner => Ok(partner_in(left)),
     }
 }
 

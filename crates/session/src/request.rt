@@ -1,5 +1,5 @@
 // What a line asks.
-use model::Change;
+use model::{Change, Replacement};
 
 #[derive(Drop)]
 pub enum Request {
@@ -28,4 +28,23 @@ pub enum Request {
     Size,
     // A screen of so many cells, or the one that is there.
     Screen(Option<u32>),
+    // Records that take their new bytes from one text.
+    Script {
+        text: Vec<u8>,
+        records: Vec<Replacement>,
+    },
+    Range {
+        from: u32,
+        to: u32,
+    },
+    Same {
+        place: u32,
+        bytes: Vec<u8>,
+    },
+    Place(u32),
+    Spot {
+        line: u32,
+        column: u32,
+    },
+    Partner(u32),
 }

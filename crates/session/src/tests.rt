@@ -1,7 +1,9 @@
 // Lines read and answers written, each beside what it should be.
-use crate::{Problem, Request, answer_text, digits_text, quoted_text, read_request};
-use document::Answer;
-use model::{Change, Refusal};
+use crate::{Problem, Request, answer_text, read_request};
+use brackets::Partner;
+use document::{Answer, RecordRefusal};
+use model::{Change, Refusal, Replacement};
+use notation::{digits_text, quoted_text};
 use std::test::Fail;
 
 #[test]
@@ -39,18 +41,109 @@ fn lines_are_read(rt: HostRuntime) -> Result<(), Fail> {
 }
 
 #[test]
+fn scripts_are_read(rt: HostRuntime) -> Result<(), Fail> {
+    let heap = rt.alloc();
+    let none = read_request(heap, b"script x61 ")?;
+    assert!(rt;
+        matches!(&none, Ok(Request::Script { text, records }) if text.as_slice() == b"a".as_slice() && records.is_empty())
+    );
+    let two = read_request(heap, b"script \"a b\"  0,0,0,3 \t7,4294967295,01,2\r")?;
+    let first = Replacement {
+        from: 0,
+        to: 0,
+        start: 0,
+        end: 3,
+    };
+    let second = Replacement {
+        from: 7,
+        to: 4294967295,
+        start: 1,
+        end: 2,
+    };
+    assert!(rt;
+        matches!(&two, Ok(Request::Script { text, records }) if text.as_slice() == b"a b".as_slice() && records.as_slice() == [first, second].as_slice())
+    );
+    Ok(())
+}
+
+#[test]
+fn questions_are_read(rt: HostRuntime) -> Result<(), Fail> {
+    let heap = rt.alloc();
+    assert!(rt;
+        matches!(
+            read_request(heap, b"range 1 2")?,
+            Ok(Request::Range { from: 1, to: 2 })
+        )
+    );
+    let same = read_request(heap, b"same 7 \"wall\" ")?;
+    assert!(rt;
+        matches!(&same, Ok(Request::Same { place: 7, bytes }) if bytes.as_slice() == b"wall".as_slice())
+    );
+    assert!(rt; matches!(read_request(heap, b"place 9")?, Ok(Request::Place(9))));
+    assert!(rt;
+        matches!(
+            read_request(heap, b"spot 3 4")?,
+            Ok(Request::Spot { line: 3, column: 4 })
+        )
+    );
+    assert!(rt; matches!(read_request(heap, b"partner 5")?, Ok(Request::Partner(5))));
+    Ok(())
+}
+
+#[test]
 fn problems_are_told(rt: HostRuntime) -> Result<(), Fail> {
     let heap = rt.alloc();
-    let lines: [(&[u8], Problem); 6] = [
+    let lines: [(&[u8], Problem); 16] = [
         (b"Open", Problem::UnknownCall),
         (b"text 1", Problem::Number),
         (b"screen 4294967296", Problem::Number),
         (b"edit 0 0 x0", Problem::Bytes),
         (b"edit 0 0 \"a\" b", Problem::Bytes),
         (b"size 1", Problem::LeftOver),
+        (b"script", Problem::Bytes),
+        (b"script \"a\"0,0,0,1", Problem::Bytes),
+        (b"script x61 0,0,0", Problem::Record),
+        (b"script x61 0,0,0,1,1", Problem::Record),
+        (b"script x61 0,0,0,1 0,0,0,-1", Problem::Record),
+        (b"range 1 2 3", Problem::LeftOver),
+        (b"same 1", Problem::Bytes),
+        (b"place x", Problem::Number),
+        (b"spot 1", Problem::Number),
+        (b"partner 1 2", Problem::LeftOver),
     ];
     for (line, expected) in lines {
         assert!(rt; matches!(read_request(heap, line)?, Err(problem) if problem == expected));
+    }
+    Ok(())
+}
+
+#[test]
+fn questions_are_answered(rt: HostRuntime) -> Result<(), Fail> {
+    let heap = rt.alloc();
+    let refused = RecordRefusal {
+        index: 2,
+        refusal: Refusal::OutsidePart(7),
+    };
+    let other = Partner {
+        place: 3,
+        agree: false,
+    };
+    let answers: [(Answer, &str); 9] = [
+        (Answer::Done(0), "done 0"),
+        (Answer::RecordRefused(refused), "refused 2 15 script 7"),
+        (Answer::Begins(true), "yes"),
+        (Answer::Begins(false), "no"),
+        (Answer::Position { line: 4, column: 0 }, "4 0"),
+        (Answer::Spot(12), "12"),
+        (Answer::Partner(Some(other)), "3 differ"),
+        (Answer::Partner(None), "none"),
+        (
+            Answer::Refused(Refusal::NoBracket(9)),
+            "refused 14 document 9",
+        ),
+    ];
+    for (answer, line) in answers {
+        assert!(rt; answer_text(heap, answer)?.as_str() == line);
     }
     Ok(())
 }

@@ -13,7 +13,7 @@ use grammar::Words;
 use layers::Comment;
 use load::room::{UNREAD, UNUSED};
 use meter::{Blank, Pair, Place};
-use session::{digits_text, quoted_text};
+use notation::{digits_text, quoted_text};
 use std::io;
 use std::io::Write;
 use walks::{DocumentMeter, Walk};

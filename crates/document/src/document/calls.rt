@@ -1,5 +1,5 @@
 // The calls of a document. A refused one changes nothing and gives back what it was given.
-ghost use Rattle.std.specs.Prelude.{◌≡◌, ℕ, ◌-◌, ◌≤◌, length, is_ok, IfOk, IfErr, if◌then◌else◌, None, OnErr, OnOk};
+ghost use Rattle.std.specs.Prelude.{◌≡◌, ℕ, ◌-◌, ◌≤◌, List, length, is_ok, IfOk, IfErr, if◌then◌else◌, None, OnErr, OnOk};
 ghost use Rattle.std.specs.List.{between};
 ghost use Rattle.automaton.specs.Walk.{colours as colours_of};
 ghost use Rattle.chunks.specs.Tree.{Balanced};
@@ -10,14 +10,16 @@ ghost use Rattle.model.specs.Paint.{painted};
 ghost use Rattle.tree.specs.Public.{tree_in};
 ghost use Rattle.editing.specs.Content.{document_measure};
 ghost use Rattle.document.specs.Content.{model_of, new_model, text as text_of, Keeps, size_of, Unchanged};
-ghost use Rattle.document.specs.Tokens.{given_back};
+ghost use Rattle.document.specs.Records.{script_result, RecordByRecord};
+ghost use Rattle.document.specs.Tokens.{given_back, script_told};
+ghost use Rattle.model.specs.Script.{scripted, script_screen};
 
 use crate::document::Document;
-use crate::tokens::{Due, Pass, Refused};
+use crate::tokens::{Due, Pass, Refused, ScriptRefused};
 use editing::{Readings, copy_colours, copy_text};
 use grammar::Grammar;
 use meter::Meter;
-use model::{Change, Refusal};
+use model::{Change, Refusal, Replacement};
 use slots::slot::Slot;
 use tree::ChunkTree;
 use walks::DocumentMeter;
@@ -36,6 +38,7 @@ impl<'a, R: Copy> Document<'a, R> {
     {
         Document {
             tree: ChunkTree::new(slots, store, readings),
+            lines: 0,
             due: None,
         }
     }
@@ -146,6 +149,27 @@ impl<X: Copy> Document<'_, Readings<X>> {
                 Ok(Pass { granted: () })
             }
             Err(refusal) => Err(Refused { back: due, refusal }),
+        }
+    }
+
+    // SCRIPT carries the records of a list out, one after another: each is an edit and its painting. It says how many it did.
+    pub fn script<G: Grammar, H: Meter<Reading = X>>(
+        &mut self,
+        meter: &DocumentMeter<G, H>,
+        pass: Pass,
+        screen: &mut [u8],
+        records: &[Replacement],
+        text: &[u8],
+    ) -> Result<(usize, Pass), ScriptRefused>
+        ensures answer { script_told result ≡ script_result (scripted (length screen.old) text.now (model_of self.old) records.now) }
+        ensures after { model_of self.new ≡ (scripted (length screen.old) text.now (model_of self.old) records.now).after }
+        ensures painted { Keeps self.old (document_measure (G.Grammar.meaning meter.now.first.grammar) (H.Meter.scale meter.now.second.second)) → screen.new ≡ script_screen (G.Grammar.meaning meter.now.first.grammar) (length screen.old) text.now (model_of self.old) screen.old records.now }
+        ensures keeps { Keeps self.old (document_measure (G.Grammar.meaning meter.now.first.grammar) (H.Meter.scale meter.now.second.second)) → Keeps self.new (document_measure (G.Grammar.meaning meter.now.first.grammar) (H.Meter.scale meter.now.second.second)) }
+        ensures records { (buffer : List ℕ) (reading : _) → Keeps self.old (document_measure (G.Grammar.meaning meter.now.first.grammar) (H.Meter.scale meter.now.second.second)) → RecordByRecord (G.Grammar.meaning meter.now.first.grammar) (λ s. Keeps s.document (document_measure (G.Grammar.meaning meter.now.first.grammar) (H.Meter.scale meter.now.second.second))) text.now records.now (record { document = self.old; screen = screen.old; buffer = buffer; reading = reading }) (record { document = self.new; screen = screen.new; buffer = buffer; reading = reading }) }
+    {
+        match self.try_script(meter, screen, records, text) {
+            Ok(done) => Ok((done, pass)),
+            Err(record) => Err(ScriptRefused { back: pass, record }),
         }
     }
 

@@ -8,7 +8,7 @@ ghost use Rattle.editing.specs.Content.{document_measure};
 ghost use Rattle.document.specs.Content.{model_of, text as text_of, Keeps, Unchanged};
 
 use crate::document::Document;
-use editing::{Readings, apply_edit, paint_change};
+use editing::{Edited, Readings, apply_edit, line_ends_of, paint_change};
 use grammar::Grammar;
 use meter::Meter;
 use model::{Change, Refusal};
@@ -90,7 +90,8 @@ impl<X: Copy> Document<'_, Readings<X>> {
         if let Some(due) = self.due {
             return Err(Refusal::DueStands(due.place as u64));
         }
-        let change = apply_edit(&mut self.tree, meter, from, to, bytes)?;
+        let Edited { change, lost } = apply_edit(&mut self.tree, meter, from, to, bytes)?;
+        self.lines = self.lines - lost + line_ends_of(bytes) as u32;
         self.due = Some(change);
         Ok(change)
     }

@@ -20,8 +20,8 @@ overflow_add-behind g c =
     let new = c.args.bytes.now in
     omega (arith, told.few, forward T c.args.from c.args.to new ok, inside T c.args.from c.args.to new ok, few_bytes T c.args.from c.args.to new ok)
 
-pub overflow_cast-result-2 : goal.overflow_cast-result-2
-overflow_cast-result-2 g c =
+pub overflow_cast-change-2 : goal.overflow_cast-change-2
+overflow_cast-change-2 g c =
     let told = c.in_ok-run.ensures in
     let ok = (answered_ok _ _ _ (sym told.is)).0 in
     let T = c.args.tree.now in
@@ -31,8 +31,8 @@ overflow_cast-result-2 g c =
     let long = text_long T c.args.from c.args.to new ok after made.chunks made.usable made.lent in
     omega (arith, told.few, forward T c.args.from c.args.to new ok, inside T c.args.from c.args.to new ok, few_bytes T c.args.from c.args.to new ok, long, length-drop (c.args.from + length new) (text_in after), c.apart_from.ensures.within)
 
-pub overflow_add-result : goal.overflow_add-result
-overflow_add-result g c =
+pub overflow_add-change : goal.overflow_add-change
+overflow_add-change g c =
     let told = c.in_ok-run.ensures in
     let ok = (answered_ok _ _ _ (sym told.is)).0 in
     let T = c.args.tree.now in
@@ -42,24 +42,25 @@ overflow_add-result g c =
     let long = text_long T c.args.from c.args.to new ok after made.chunks made.usable made.lent in
     omega (arith, told.few, forward T c.args.from c.args.to new ok, inside T c.args.from c.args.to new ok, few_bytes T c.args.from c.args.to new ok, long, length-drop (c.args.from + length new) (text_in after), c.apart_from.ensures.within)
 
-pub returns : goal.returns
-returns g c =
+pub returns-clause-decides : goal.returns-clause-decides
+returns-clause-decides g c = sym (answered_ok _ _ _ (sym c.in_ok-run.ensures.is)).0
+
+pub returns-clause-applied : goal.returns-clause-applied
+returns-clause-applied g c =
+    let ok = (answered_ok _ _ _ (sym c.in_ok-run.ensures.is)).0 in
+    let made = c.replace_run.ensures in
+    applied c.args.tree.now c.args.from c.args.to c.args.bytes.now ok c.replace_run.new.tree made.chunks made.usable made.lent c.apart_from.result c.apart_from.ensures.within
+
+pub returns-clause-ends : goal.returns-clause-ends
+returns-clause-ends g c kept =
     let a = g.G.Grammar.meaning c.args.meter.now.first.grammar in
-    let told = c.in_ok-run.ensures in
-    let ok = (answered_ok _ _ _ (sym told.is)).0 in
+    let ok = (answered_ok _ _ _ (sym c.in_ok-run.ensures.is)).0 in
     let T = c.args.tree.now in
     let from = c.args.from in
     let to = c.args.to in
     let new = c.args.bytes.now in
     let made = c.replace_run.ensures in
     let after = c.replace_run.new.tree in
-    record {
-      decides = sym ok;
-      applied = applied T from to new ok after made.chunks made.usable made.lent c.apart_from.result c.apart_from.ensures.within;
-      ends = λ kept.
-          let end = end_told a (text_in T) from to new (text_in after) c.state_before.result c.walk.result c.apart_from.result (forward T from to new ok) (inside T from to new ok)
-          (text_after T from to new ok after made.chunks made.usable made.lent) (c.state_before.ensures kept) (c.walk.ensures ∙ ap (λ s. walk a s new) (c.state_before-2.ensures kept)) (c.apart_from.ensures.meets (made.keeps kept)) in
-          λ z. record { place = from; removed = to - from; inserted = length new; end = end z };
-      keeps = made.keeps;
-      same = tt;
-    }
+    let end = end_told a (text_in T) from to new (text_in after) c.state_before.result c.walk.result c.apart_from.result (forward T from to new ok) (inside T from to new ok)
+    (text_after T from to new ok after made.chunks made.usable made.lent) (c.state_before.ensures kept) (c.walk.ensures ∙ ap (λ s. walk a s new) (c.state_before-2.ensures kept)) (c.apart_from.ensures.meets (made.keeps kept)) in
+    λ z. record { place = from; removed = to - from; inserted = length new; end = end z }

@@ -20,4 +20,15 @@ returns c = record {
   two_chunks_of_65 = refl;
   few_bytes_take_a_neighbour = refl;
   enough_bytes_stay_alone = refl;
+  string_hides_a_bracket = refl;
+  partner_back_to_the_opening = refl;
+  no_bracket_in_a_string = refl;
+  kinds_may_differ = refl;
+  inner_kinds_differ_too = refl;
+  alone_without_partner = refl;
+  inside_a_character = refl;
+  behind_a_character = refl;
+  before_a_character = refl;
+  last_place_of_a_column = refl;
+  beyond_the_last_column = refl;
 }

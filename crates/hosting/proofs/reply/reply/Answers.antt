@@ -3,6 +3,8 @@ use Rattle.model.specs.declared.change.Change.{Change}
 use Rattle.std.specs.Prelude.{length, Option}
 use Rattle.session.specs.Asked.{asked}
 use Rattle.document.specs.Content.{model_of}
+use Rattle.editing.specs.Content.{document_measure}
+use Rattle.measure.specs.Blank.{blank_measure}
 use Rattle.hosting.specs.Replies.{IsCall}
 use Rattle.hosting.proofs.Replying.{carried}
 use Rattle.hosting.proofs.reply.reply.Goals as goal
@@ -16,8 +18,8 @@ returns-in_ok-answer_of-in-Some-clause-replies g c keeps =
     let r = asked c.args.request.now in
     let by_states : IsCall a.count c.standing.result cells r call = subst (λ n. IsCall n c.standing.result cells r call) c.count-states.ensures c.in-Some.ensures in
     let is : IsCall a.count m.due cells r call = subst (λ (o : Option Change). IsCall a.count o cells r call) c.standing.ensures by_states in
-    carried a r _ _ _ a.count m.due cells call is (record {
-      entry = record { call = call; answer = c.perform-answer.result; after = record { document = c.perform-answer.new.self; screen = c.perform-answer.new.screen; buffer = c.perform-answer.new.buffer } };
+    carried a (document_measure a blank_measure) r _ _ _ a.count m.due cells call is (record {
+      entry = record { call = call; answer = c.perform-answer.result; after = record { document = c.perform-answer.new.self; screen = c.perform-answer.new.screen; buffer = c.perform-answer.new.buffer; reading = c.perform-answer.new.reading } };
       is_call = is;
       obeys = c.perform-answer.ensures.obeys keeps;
       leaves = refl;

@@ -1,16 +1,34 @@
-use Rattle.std.proofs.Common.{◌≡◌, false, [], length, take, is_some, sym, ap, ◌∙◌, arith}
+use Rattle.std.proofs.Common.{◌≡◌, ℕ, ◌+◌, ◌-◌, false, [], length, take, is_some, sym, ap, ◌∙◌, arith}
 use Rattle.std.proofs.lemmas.List.{take_all}
 use Rattle.std.proofs.lemmas.Bool.{leb-true}
 use Rattle.chunks.specs.Tree.{Tree}
 use Rattle.chunks.proofs.Sides.{leaf_if_none}
-use Rattle.search.specs.Backwards.{forwards, back_stop}
+use Rattle.search.specs.Backwards.{back_stop}
 use Rattle.slots.specs.Split.{Held}
 use Rattle.slots.specs.View.{text_of}
 use Rattle.slots.specs.declared.slot.Extent.{Extent}
 use Rattle.slots.proofs.Joining.{height_held}
 use Rattle.seek.proofs.Kept.{kept_top, opened}
-use Rattle.seek.proofs.Ascent.{FoundBack, stopped_right, own_fits, stopped_inside, found_all, all_fits}
+use Rattle.seek.proofs.Ascent.{FoundRight, FoundUnder, right_none, right_sought, stopped_right, own_fits, stopped_inside, found_all, all_fits}
+use Rattle.seek.proofs.seek_back.+seek_back.Given as given
 use Rattle.seek.proofs.seek_back.+seek_back.Goals as goal
+use Rattle.seek.proofs.seek_back.+seek_back.Goals.{Joined-place-behind, then-place-behind, else-place-behind}
+
+-- What the search came to on the right, where the place may lie in the slot's own chunk or before it.
+right_found : (g : given.Over) (t : ℕ) (c : goal.Joined-place-behind g t) → let b = g.S.Backward in (z : Tree) → Held c.args.memory.now c.child-right.result z → FoundRight c.args.memory.now (b.scale c.args.search.now) (b.fore c.args.search.now) (b.back c.args.search.now) c.in-Some.i c.ahead_under-inner.result (c.args.place - (c.extent-before.result.bytes + c.chunk_length.result)) c.args.at z c.if-place-behind.rest
+right_found g t c z held =
+    let m = c.args.memory.now in
+    let b = g.S.Backward in
+    let μ = b.scale c.args.search.now in
+    let fore = b.fore c.args.search.now in
+    let back = b.back c.args.search.now in
+    let behind = c.extent-before.result.bytes + c.chunk_length.result in
+    elim c.if-place-behind.branch [
+      | then-place-behind w ↦
+          let sought = w.seek_back-rest.ensures in
+          right_sought m μ fore back c.in-Some.i c.ahead_under-inner.result c.args.place behind c.args.at z c.if-place-behind.rest w.ahead_over_own-outer.result w.ahead_over_own-outer.ensures w.seek_back-rest.result (record { within = sought.within z held; finds = sought.finds z held }) w.rest-is
+      | else-place-behind w ↦ right_none m μ fore back c.in-Some.i c.ahead_under-inner.result c.args.place behind c.args.at z c.if-place-behind.rest w.if-place-behind.false (w.rest-is ∙ w.nowhere-rest.ensures)
+    ]
 
 -- With no byte before the place there is nothing to run through.
 pub returns-in_default : goal.returns-in_default
@@ -91,13 +109,6 @@ ahead_under-inner-requires g t c =
     let o = opened m c.in-Some.i c.child-left.result c.child-right.result c.args.link c.child-left.ensures c.child-right.ensures c.in-Some.is c.requires.0 held in
     (o.l, o.left_held)
 
-pub chunk-requires : goal.chunk-requires
-chunk-requires g t c =
-    let held = c.requires.1 in
-    let m = c.args.memory.now in
-    let o = opened m c.in-Some.i c.child-left.result c.child-right.result c.args.link c.child-left.ensures c.child-right.ensures c.in-Some.is c.requires.0 held in
-    (held.roomy, (o.known, o.few_bytes))
-
 pub seek_own_back-inside-requires : goal.seek_own_back-inside-requires
 seek_own_back-inside-requires g t c =
     let held = c.requires.1 in
@@ -113,8 +124,7 @@ returns-then-rest g t c =
     let μ = b.scale c.args.search.now in
     let fore = b.fore c.args.search.now in
     let back = b.back c.args.search.now in
-    let right = c.seek_back-rest.ensures in
-    let found : (z : Tree) → Held m c.args.link z → FoundBack m μ fore back c.args.state c.args.place c.args.at z c.seek_back-rest.result = λ z held. stopped_right m μ fore back c.args.state c.args.at c.args.place i c.child-left.result c.child-right.result c.args.link (opened m i c.child-left.result c.child-right.result c.args.link c.child-left.ensures c.child-right.ensures c.in-Some.is) c.extent-before.result.bytes c.chunk_length.result (λ z held. ap (λ (x : Extent). x.bytes) (c.extent-before.ensures z held.root_is held.holds)) c.chunk_length.ensures c.ahead_under-inner.result c.ahead_of_bytes-outer.result c.ahead_under-inner.ensures (c.ahead_of_bytes-outer.ensures ∙ ap (forwards fore c.ahead_under-inner.result) c.chunk.ensures) c.saturating_sub.result c.saturating_sub.ensures c.seek_back-rest.result (λ z held. record { within = right.within z held; finds = right.finds z held }) z held c.if-rest.true in
+    let found : (z : Tree) → Held m c.args.link z → FoundUnder m μ fore back c.args.state c.args.place c.args.at z c.if-place-behind.rest = λ z held. stopped_right m μ fore back c.args.state c.args.at c.args.place i c.child-left.result c.child-right.result c.args.link (opened m i c.child-left.result c.child-right.result c.args.link c.child-left.ensures c.child-right.ensures c.in-Some.is) c.extent-before.result.bytes c.chunk_length.result (λ z held. ap (λ (x : Extent). x.bytes) (c.extent-before.ensures z held.root_is held.holds)) c.chunk_length.ensures c.ahead_under-inner.result c.ahead_under-inner.ensures c.if-place-behind.rest (right_found g t (goal.at.returns-then-rest g t c).Joined-place-behind) z held c.if-rest.true in
     record { within = λ z held. (found z held).within; finds = λ z held. (found z held).finds }
 
 pub further-own-requires : goal.further-own-requires
@@ -125,8 +135,8 @@ further-own-requires g t c =
     let μ = b.scale c.args.search.now in
     let fore = b.fore c.args.search.now in
     let back = b.back c.args.search.now in
-    let right = c.seek_back-rest.ensures in
-    own_fits m μ fore back c.args.state c.args.at c.args.place i c.child-left.result c.child-right.result c.args.link (opened m i c.child-left.result c.child-right.result c.args.link c.child-left.ensures c.child-right.ensures c.in-Some.is) c.extent-before.result.bytes c.chunk_length.result (λ z held. ap (λ (x : Extent). x.bytes) (c.extent-before.ensures z held.root_is held.holds)) c.chunk_length.ensures c.ahead_under-inner.result c.ahead_of_bytes-outer.result c.ahead_under-inner.ensures (c.ahead_of_bytes-outer.ensures ∙ ap (forwards fore c.ahead_under-inner.result) c.chunk.ensures) c.saturating_sub.result c.saturating_sub.ensures c.seek_back-rest.result (λ z held. record { within = right.within z held; finds = right.finds z held }) c.if-rest.false c.saturating_sub-2.result c.saturating_sub-2.ensures c.seek_own_back-inside.result c.seek_own_back-inside.ensures c.requires.0 c.requires.1
+    let inside = c.seek_own_back-inside.ensures in
+    own_fits m μ fore back c.args.state c.args.at c.args.place i c.child-left.result c.child-right.result c.args.link (opened m i c.child-left.result c.child-right.result c.args.link c.child-left.ensures c.child-right.ensures c.in-Some.is) c.extent-before.result.bytes c.chunk_length.result (λ z held. ap (λ (x : Extent). x.bytes) (c.extent-before.ensures z held.root_is held.holds)) c.chunk_length.ensures c.ahead_under-inner.result c.ahead_under-inner.ensures c.if-place-behind.rest (right_found g t (goal.at.further-own-requires g t c).Joined-place-behind) c.if-rest.false c.saturating_sub-within.result c.saturating_sub-within.ensures c.seek_own_back-inside.result (record { within = inside.within; finds = inside.finds }) c.requires.0 c.requires.1
 
 pub returns-then-own : goal.returns-then-own
 returns-then-own g t c =
@@ -136,8 +146,8 @@ returns-then-own g t c =
     let μ = b.scale c.args.search.now in
     let fore = b.fore c.args.search.now in
     let back = b.back c.args.search.now in
-    let right = c.seek_back-rest.ensures in
-    let found = stopped_inside m μ fore back c.args.state c.args.at c.args.place i c.child-left.result c.child-right.result c.args.link (opened m i c.child-left.result c.child-right.result c.args.link c.child-left.ensures c.child-right.ensures c.in-Some.is) c.extent-before.result.bytes c.chunk_length.result (λ z held. ap (λ (x : Extent). x.bytes) (c.extent-before.ensures z held.root_is held.holds)) c.chunk_length.ensures c.ahead_under-inner.result c.ahead_of_bytes-outer.result c.ahead_under-inner.ensures (c.ahead_of_bytes-outer.ensures ∙ ap (forwards fore c.ahead_under-inner.result) c.chunk.ensures) c.saturating_sub.result c.saturating_sub.ensures c.seek_back-rest.result (λ z held. record { within = right.within z held; finds = right.finds z held }) c.if-rest.false c.saturating_sub-2.result c.saturating_sub-2.ensures c.seek_own_back-inside.result c.seek_own_back-inside.ensures c.further-own.result c.further-own.ensures c.if-own.true in
+    let inside = c.seek_own_back-inside.ensures in
+    let found = stopped_inside m μ fore back c.args.state c.args.at c.args.place i c.child-left.result c.child-right.result c.args.link (opened m i c.child-left.result c.child-right.result c.args.link c.child-left.ensures c.child-right.ensures c.in-Some.is) c.extent-before.result.bytes c.chunk_length.result (λ z held. ap (λ (x : Extent). x.bytes) (c.extent-before.ensures z held.root_is held.holds)) c.chunk_length.ensures c.ahead_under-inner.result c.ahead_under-inner.ensures c.if-place-behind.rest (right_found g t (goal.at.returns-then-own g t c).Joined-place-behind) c.if-rest.false c.saturating_sub-within.result c.saturating_sub-within.ensures c.seek_own_back-inside.result (record { within = inside.within; finds = inside.finds }) c.further-own.result c.further-own.ensures c.if-own.true in
     record { within = λ z held. (found z held).within; finds = λ z held. (found z held).finds }
 
 pub further-requires : goal.further-requires
@@ -148,9 +158,9 @@ further-requires g t c =
     let μ = b.scale c.args.search.now in
     let fore = b.fore c.args.search.now in
     let back = b.back c.args.search.now in
-    let right = c.seek_back-rest.ensures in
+    let inside = c.seek_own_back-inside.ensures in
     let left = c.seek_back-first.ensures in
-    all_fits m μ fore back c.args.state c.args.at c.args.place i c.child-left.result c.child-right.result c.args.link (opened m i c.child-left.result c.child-right.result c.args.link c.child-left.ensures c.child-right.ensures c.in-Some.is) c.extent-before.result.bytes c.chunk_length.result (λ z held. ap (λ (x : Extent). x.bytes) (c.extent-before.ensures z held.root_is held.holds)) c.chunk_length.ensures c.ahead_under-inner.result c.ahead_of_bytes-outer.result c.ahead_under-inner.ensures (c.ahead_of_bytes-outer.ensures ∙ ap (forwards fore c.ahead_under-inner.result) c.chunk.ensures) c.saturating_sub.result c.saturating_sub.ensures c.seek_back-rest.result (λ z held. record { within = right.within z held; finds = right.finds z held }) c.if-rest.false c.saturating_sub-2.result c.saturating_sub-2.ensures c.seek_own_back-inside.result c.seek_own_back-inside.ensures c.further-own.result c.further-own.ensures c.if-own.false c.seek_back-first.result (λ z held. record { within = left.within z held; finds = left.finds z held }) c.requires.0 c.requires.1
+    all_fits m μ fore back c.args.state c.args.at c.args.place i c.child-left.result c.child-right.result c.args.link (opened m i c.child-left.result c.child-right.result c.args.link c.child-left.ensures c.child-right.ensures c.in-Some.is) c.extent-before.result.bytes c.chunk_length.result (λ z held. ap (λ (x : Extent). x.bytes) (c.extent-before.ensures z held.root_is held.holds)) c.chunk_length.ensures c.ahead_under-inner.result c.ahead_under-inner.ensures c.if-place-behind.rest (right_found g t (goal.at.further-requires g t c).Joined-place-behind) c.if-rest.false c.saturating_sub-within.result c.saturating_sub-within.ensures c.seek_own_back-inside.result (record { within = inside.within; finds = inside.finds }) c.further-own.result c.further-own.ensures c.if-own.false c.seek_back-first.result (λ z held. record { within = left.within z held; finds = left.finds z held }) c.requires.0 c.requires.1
 
 pub returns : goal.returns
 returns g t c =
@@ -160,7 +170,7 @@ returns g t c =
     let μ = b.scale c.args.search.now in
     let fore = b.fore c.args.search.now in
     let back = b.back c.args.search.now in
-    let right = c.seek_back-rest.ensures in
+    let inside = c.seek_own_back-inside.ensures in
     let left = c.seek_back-first.ensures in
-    let found = found_all m μ fore back c.args.state c.args.at c.args.place i c.child-left.result c.child-right.result c.args.link (opened m i c.child-left.result c.child-right.result c.args.link c.child-left.ensures c.child-right.ensures c.in-Some.is) c.extent-before.result.bytes c.chunk_length.result (λ z held. ap (λ (x : Extent). x.bytes) (c.extent-before.ensures z held.root_is held.holds)) c.chunk_length.ensures c.ahead_under-inner.result c.ahead_of_bytes-outer.result c.ahead_under-inner.ensures (c.ahead_of_bytes-outer.ensures ∙ ap (forwards fore c.ahead_under-inner.result) c.chunk.ensures) c.saturating_sub.result c.saturating_sub.ensures c.seek_back-rest.result (λ z held. record { within = right.within z held; finds = right.finds z held }) c.if-rest.false c.saturating_sub-2.result c.saturating_sub-2.ensures c.seek_own_back-inside.result c.seek_own_back-inside.ensures c.further-own.result c.further-own.ensures c.if-own.false c.seek_back-first.result (λ z held. record { within = left.within z held; finds = left.finds z held }) c.further.result c.further.ensures in
+    let found = found_all m μ fore back c.args.state c.args.at c.args.place i c.child-left.result c.child-right.result c.args.link (opened m i c.child-left.result c.child-right.result c.args.link c.child-left.ensures c.child-right.ensures c.in-Some.is) c.extent-before.result.bytes c.chunk_length.result (λ z held. ap (λ (x : Extent). x.bytes) (c.extent-before.ensures z held.root_is held.holds)) c.chunk_length.ensures c.ahead_under-inner.result c.ahead_under-inner.ensures c.if-place-behind.rest (right_found g t (goal.at.returns g t c).Joined-place-behind) c.if-rest.false c.saturating_sub-within.result c.saturating_sub-within.ensures c.seek_own_back-inside.result (record { within = inside.within; finds = inside.finds }) c.further-own.result c.further-own.ensures c.if-own.false c.seek_back-first.result (λ z held. record { within = left.within z held; finds = left.finds z held }) c.further.result c.further.ensures in
     record { within = λ z held. (found z held).within; finds = λ z held. (found z held).finds }

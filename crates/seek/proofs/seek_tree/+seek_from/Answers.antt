@@ -101,7 +101,7 @@ further-own-requires g t c =
     let μ = g.S.Forward.scale c.args.search.now in
     let next = g.S.Forward.goes c.args.search.now in
     let left = c.seek_from-first.ensures in
-    own_fits m μ next c.args.at c.args.place i c.child-left.result c.child-right.result c.args.link (opened m i c.child-left.result c.child-right.result c.args.link c.child-left.ensures c.child-right.ensures c.in-Some.is) c.seek_from-first.result (λ z held. record { within = left.within z held; finds = left.finds z held }) c.if-first.false c.extent-before.result.bytes c.saturating_sub.result (λ z held. ap (λ (x : Extent). x.bytes) (c.extent-before.ensures z held.root_is held.holds)) c.saturating_sub.ensures c.seek_own-inside.result c.seek_own-inside.ensures c.requires.0 c.requires.1
+    own_fits m μ next c.args.at c.args.place i c.child-left.result c.child-right.result c.args.link (opened m i c.child-left.result c.child-right.result c.args.link c.child-left.ensures c.child-right.ensures c.in-Some.is) c.seek_from-first.result (λ z held. record { within = left.within z held; finds = left.finds z held }) c.if-first.false c.extent-before.result.bytes c.saturating_sub.result (λ z held. ap (λ (x : Extent). x.bytes) (c.extent-before.ensures z held.root_is held.holds)) c.saturating_sub.ensures c.seek_own-inside.result c.seek_own-inside.ensures.within c.seek_own-inside.ensures.finds c.requires.0 c.requires.1
 
 pub returns-then-own : goal.returns-then-own
 returns-then-own g t c =
@@ -110,7 +110,7 @@ returns-then-own g t c =
     let μ = g.S.Forward.scale c.args.search.now in
     let next = g.S.Forward.goes c.args.search.now in
     let left = c.seek_from-first.ensures in
-    let found = stopped_inside m μ next c.args.at c.args.place i c.child-left.result c.child-right.result c.args.link (opened m i c.child-left.result c.child-right.result c.args.link c.child-left.ensures c.child-right.ensures c.in-Some.is) c.seek_from-first.result (λ z held. record { within = left.within z held; finds = left.finds z held }) c.if-first.false c.extent-before.result.bytes c.saturating_sub.result (λ z held. ap (λ (x : Extent). x.bytes) (c.extent-before.ensures z held.root_is held.holds)) c.saturating_sub.ensures c.seek_own-inside.result c.seek_own-inside.ensures c.further-own.result c.further-own.ensures c.if-own.true in
+    let found = stopped_inside m μ next c.args.at c.args.place i c.child-left.result c.child-right.result c.args.link (opened m i c.child-left.result c.child-right.result c.args.link c.child-left.ensures c.child-right.ensures c.in-Some.is) c.seek_from-first.result (λ z held. record { within = left.within z held; finds = left.finds z held }) c.if-first.false c.extent-before.result.bytes c.saturating_sub.result (λ z held. ap (λ (x : Extent). x.bytes) (c.extent-before.ensures z held.root_is held.holds)) c.saturating_sub.ensures c.seek_own-inside.result c.seek_own-inside.ensures.within c.seek_own-inside.ensures.finds c.further-own.result c.further-own.ensures c.if-own.true in
     record { within = λ z held. (found z held).within; finds = λ z held. (found z held).finds }
 
 pub further-requires : goal.further-requires
@@ -121,7 +121,7 @@ further-requires g t c =
     let next = g.S.Forward.goes c.args.search.now in
     let left = c.seek_from-first.ensures in
     let right = c.seek_from-rest.ensures in
-    all_fits m μ next c.args.at c.args.place i c.child-left.result c.child-right.result c.args.link (opened m i c.child-left.result c.child-right.result c.args.link c.child-left.ensures c.child-right.ensures c.in-Some.is) c.seek_from-first.result (λ z held. record { within = left.within z held; finds = left.finds z held }) c.if-first.false c.extent-before.result.bytes c.saturating_sub.result (λ z held. ap (λ (x : Extent). x.bytes) (c.extent-before.ensures z held.root_is held.holds)) c.saturating_sub.ensures c.seek_own-inside.result c.seek_own-inside.ensures c.further-own.result c.further-own.ensures c.if-own.false c.chunk_length.result c.saturating_sub-2.result c.chunk_length.ensures c.saturating_sub-2.ensures c.seek_from-rest.result (λ z held. record { within = right.within z held; finds = right.finds z held }) c.requires.0 c.requires.1
+    all_fits m μ next c.args.at c.args.place i c.child-left.result c.child-right.result c.args.link (opened m i c.child-left.result c.child-right.result c.args.link c.child-left.ensures c.child-right.ensures c.in-Some.is) c.seek_from-first.result (λ z held. record { within = left.within z held; finds = left.finds z held }) c.if-first.false c.extent-before.result.bytes c.saturating_sub.result (λ z held. ap (λ (x : Extent). x.bytes) (c.extent-before.ensures z held.root_is held.holds)) c.saturating_sub.ensures c.seek_own-inside.result c.seek_own-inside.ensures.within c.seek_own-inside.ensures.finds c.further-own.result c.further-own.ensures c.if-own.false c.chunk_length.result c.saturating_sub-2.result c.chunk_length.ensures c.saturating_sub-2.ensures c.seek_from-rest.result (λ z held. record { within = right.within z held; finds = right.finds z held }) c.requires.0 c.requires.1
 
 pub returns : goal.returns
 returns g t c =
@@ -131,5 +131,5 @@ returns g t c =
     let next = g.S.Forward.goes c.args.search.now in
     let left = c.seek_from-first.ensures in
     let right = c.seek_from-rest.ensures in
-    let found = found_all m μ next c.args.at c.args.place i c.child-left.result c.child-right.result c.args.link (opened m i c.child-left.result c.child-right.result c.args.link c.child-left.ensures c.child-right.ensures c.in-Some.is) c.seek_from-first.result (λ z held. record { within = left.within z held; finds = left.finds z held }) c.if-first.false c.extent-before.result.bytes c.saturating_sub.result (λ z held. ap (λ (x : Extent). x.bytes) (c.extent-before.ensures z held.root_is held.holds)) c.saturating_sub.ensures c.seek_own-inside.result c.seek_own-inside.ensures c.further-own.result c.further-own.ensures c.if-own.false c.chunk_length.result c.saturating_sub-2.result c.chunk_length.ensures c.saturating_sub-2.ensures c.seek_from-rest.result (λ z held. record { within = right.within z held; finds = right.finds z held }) c.further.result c.further.ensures in
+    let found = found_all m μ next c.args.at c.args.place i c.child-left.result c.child-right.result c.args.link (opened m i c.child-left.result c.child-right.result c.args.link c.child-left.ensures c.child-right.ensures c.in-Some.is) c.seek_from-first.result (λ z held. record { within = left.within z held; finds = left.finds z held }) c.if-first.false c.extent-before.result.bytes c.saturating_sub.result (λ z held. ap (λ (x : Extent). x.bytes) (c.extent-before.ensures z held.root_is held.holds)) c.saturating_sub.ensures c.seek_own-inside.result c.seek_own-inside.ensures.within c.seek_own-inside.ensures.finds c.further-own.result c.further-own.ensures c.if-own.false c.chunk_length.result c.saturating_sub-2.result c.chunk_length.ensures c.saturating_sub-2.ensures c.seek_from-rest.result (λ z held. record { within = right.within z held; finds = right.finds z held }) c.further.result c.further.ensures in
     record { within = λ z held. (found z held).within; finds = λ z held. (found z held).finds }

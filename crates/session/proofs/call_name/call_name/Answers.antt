@@ -12,3 +12,13 @@ pub returns-in-colours : goal.returns-in-colours
 returns-in-colours c =
     let word : c.args.word.now ≡ codes "colours" = text_from_reads _ _ (omega arith) (search rules) in
     sym (ap named word)
+
+pub returns-in-script : goal.returns-in-script
+returns-in-script c =
+    let word : c.args.word.now ≡ codes "script" = text_from_reads _ _ (omega arith) (search rules) in
+    sym (ap named word)
+
+pub returns-in-partner : goal.returns-in-partner
+returns-in-partner c =
+    let word : c.args.word.now ≡ codes "partner" = text_from_reads _ _ (omega arith) (search rules) in
+    sym (ap named word)

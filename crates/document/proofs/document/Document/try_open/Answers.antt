@@ -3,7 +3,7 @@ use Rattle.std.proofs.lemmas.Bool.{cond-true}
 use Rattle.tree.specs.declared.lent.Lent.{Lent}
 use Rattle.tree.specs.Public.{chunks_now, usable_of, lent_to, preparable}
 use Rattle.model.specs.Calls.{answered}
-use Rattle.document.proofs.Opening.{can_prepare, still_fits}
+use Rattle.document.proofs.Opening.{can_prepare, still_counted, still_fits}
 use Rattle.document.proofs.document.Document.try_open.Goals as goal
 
 pub invariant_of-self : goal.invariant_of-self
@@ -13,7 +13,7 @@ invariant_of-self g c =
     let passes = sym c.in_default.ensures in
     let done : c.prepare.result ≡ true = c.prepare.ensures.answer ∙ ap (λ (l : Lent). preparable T l.slots) c.lent-slots.ensures ∙ can_prepare T self.due c.args.states passes in
     let none = c.prepare.ensures.chunks ∙ cond-true c.prepare.result [] (chunks_now T) done in
-    record { fitting = still_fits T self.due c.args.states passes c.prepare.new.self none self.fitting }
+    record { counted = still_counted T self.due c.args.states passes c.prepare.new.self self.lines none self.counted; fitting = still_fits T self.due c.args.states passes c.prepare.new.self none self.fitting }
 
 pub returns : goal.returns
 returns g c =

@@ -10,5 +10,5 @@ returns g c =
       anyway = c.carry_out.ensures.anyway;
       obeys = c.carry_out.ensures.obeys;
       keeps = c.carry_out.ensures.keeps;
-      law = λ first log follows is. log_goes_on a μ first log _ _ follows is c.carry_out.ensures.obeys c.carry_out.ensures.keeps;
+      law = λ first log follows is. log_goes_on a μ first log _ _ follows is c.carry_out.ensures.obeys c.carry_out.ensures.keeps c.carry_out.ensures.records;
     }

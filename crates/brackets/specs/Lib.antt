@@ -1,0 +1,3 @@
+-- The manual, in this order.
+pub mod Partner
+pub mod Laws

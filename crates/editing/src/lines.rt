@@ -1,0 +1,38 @@
+// The line ends of a part of the text, counted in its bytes: right whatever the readings are.
+ghost use Rattle.std.specs.Prelude.{◌≡◌};
+ghost use Rattle.std.specs.List.{between};
+ghost use Rattle.measure.specs.Place.{line_ends};
+ghost use Rattle.editing.specs.Content.{text_in};
+
+use meter::ends_line;
+use tree::ChunkTree;
+
+// How many of the bytes end a line.
+pub fn line_ends_of(bytes: &[u8]) -> usize
+    ensures { result ≡ line_ends bytes.now }
+{
+    let mut count = 0;
+    for byte in bytes {
+        if ends_line(*byte) {
+            count += 1;
+        }
+    }
+    count
+}
+
+// How many of the bytes from `from` up to `to`, or to the end of the text, end a line. They are copied in blocks of 64.
+pub fn line_ends_between<R: Copy>(tree: &ChunkTree<R>, from: u32, to: u32) -> u32
+    ensures { result ≡ line_ends (between from to (text_in tree.now)) }
+{
+    let end = to.min(tree.bytes());
+    let mut block = [0u8; 64];
+    let mut at = from;
+    let mut count = 0;
+    while at < end {
+        let next = (at + 64).min(end);
+        let _ = tree.copy(at, next, &mut block);
+        count += line_ends_of(&block[..(next - at) as usize]) as u32;
+        at = next;
+    }
+    count
+}

@@ -1,0 +1,34 @@
+-- What a passage tells of its text, from every number that a state may have.
+use Rattle.std.proofs.Common.{◌≡◌, ℕ, ◌<◌, ◌≤◌, List, length, sym, ap, ◌∙◌, ⊎_elim, arith}
+use Rattle.std.proofs.lemmas.List.{get_or_past}
+use Rattle.std.proofs.lemmas.Bool.{cases_lt}
+use Rattle.automaton.specs.Automaton.{Automaton, Lawful}
+use Rattle.measure.specs.Bounded.{longest}
+use Rattle.measure.specs.Measure.{reading}
+use Rattle.measure.specs.Walk.{entry, passage, still, entry_at, walk_measure}
+use Rattle.measure.proofs.Bounded.{bounded_within, bounded_over}
+use Rattle.measure.proofs.Rows.{length_rows, get_d_rows}
+use Rattle.measure.proofs.Walk.{walk_is, outside_entry}
+use Rattle.measure.specs.declared.bounded_reading.Bounded.TheVariants.{Within}
+use Rattle.measure.specs.declared.walk_reading.Passage.{Passage}
+
+module _ (a : Automaton) (lawful : Lawful a) (text : List ℕ) where
+  pub passage_told : (p : Passage) → reading (walk_measure a) text ≡ Within p → (length text ≤ longest) × (p ≡ passage a text)
+  passage_told p e =
+      let told = walk_is a lawful text in
+      ⊎_elim (λ h. let over = bounded_over (passage a) text h in let z : ◌≡◌ {A = ℕ} 0 1 = cc in absurd (omega arith))
+      (λ h. let within = bounded_within (passage a) text h in let same : p ≡ passage a text = cc in (h, same))
+      (cases_lt longest (length text))
+
+  -- A reading that is no passage is that of an overlong text.
+  pub overlong_told : ((p : Passage) → reading (walk_measure a) text ≡ Within p → ⊥) → longest < length text
+  overlong_told none = ⊎_elim (λ h. h) (λ h. absurd (none (passage a text) (walk_is a lawful text ∙ bounded_within (passage a) text h))) (cases_lt longest (length text))
+
+  entry_said : (s : ℕ) → entry_at (passage a text).entries s ≡ entry a s text
+  entry_said s =
+      ⊎_elim (λ h. get_d_rows (λ s. entry a s text) s (still s) h)
+      (λ h. get_or_past (passage a text).entries s (still s) (omega (arith, length_rows (λ s. entry a s text))) ∙ sym (outside_entry a lawful s text (omega (arith, lawful.few_states))))
+      (cases_lt s 64)
+
+  pub entry_told : (p : Passage) → p ≡ passage a text → (s : ℕ) → entry_at p.entries s ≡ entry a s text
+  entry_told p e s = ap (λ (q : Passage). entry_at q.entries s) e ∙ entry_said s

@@ -1,0 +1,83 @@
+// The depth of a search for a partner, over a byte of a role and over a text by the brackets that it leaves.
+ghost use Rattle.std.specs.Prelude.{◌≡◌};
+ghost use Rattle.measure.specs.Walk.{entry_at as entry_in};
+ghost use Rattle.locate.specs.Depth.{deeper, shallower, depth_ahead, depth_behind, depth_over, over_ahead, over_behind};
+
+use automaton::role::Role;
+use measure::walk_reading::Entry;
+
+fn deeper(depth: u32) -> Option<u32>
+    ensures { result ≡ deeper depth }
+{
+    Some(depth.saturating_add(1))
+}
+
+fn shallower(depth: u32) -> Option<u32>
+    ensures { result ≡ shallower depth }
+{
+    if depth <= 1 {
+        return None;
+    }
+    Some(depth - 1)
+}
+
+// From left to right over a byte.
+pub fn depth_ahead(role: Role, depth: u32) -> Option<u32>
+    ensures { result ≡ depth_ahead role depth }
+{
+    match role {
+        Role::Plain => Some(depth),
+        Role::Opening(_) => deeper(depth),
+        Role::Closing(_) => shallower(depth),
+    }
+}
+
+// From right to left over a byte.
+pub fn depth_behind(role: Role, depth: u32) -> Option<u32>
+    ensures { result ≡ depth_behind role depth }
+{
+    match role {
+        Role::Plain => Some(depth),
+        Role::Opening(_) => shallower(depth),
+        Role::Closing(_) => deeper(depth),
+    }
+}
+
+// Over a text, in either direction, where the search cannot stop in it.
+fn depth_over(depth: u32, length: u32, matching: u32, adding: u32) -> Option<u32>
+    ensures { result ≡ depth_over depth length matching adding }
+{
+    if depth > u32::MAX - length || depth <= matching {
+        return None;
+    }
+    (depth - matching).checked_add(adding)
+}
+
+// From left to right over a text, by its entry.
+pub fn over_ahead(depth: u32, length: u32, entry: &Entry) -> Option<u32>
+    ensures { result ≡ over_ahead depth length entry.now }
+{
+    depth_over(depth, length, entry.closings, entry.openings)
+}
+
+// From right to left over a text, by its entry.
+pub fn over_behind(depth: u32, length: u32, entry: &Entry) -> Option<u32>
+    ensures { result ≡ over_behind depth length entry.now }
+{
+    depth_over(depth, length, entry.openings, entry.closings)
+}
+
+// The entry of a state; a state without an entry stays.
+pub fn entry_at(entries: &[Entry; 64], state: u8) -> Entry
+    ensures { result ≡ entry_in entries.now state }
+{
+    if state < 64 {
+        entries[state as usize]
+    } else {
+        Entry {
+            end: state,
+            closings: 0,
+            openings: 0,
+        }
+    }
+}

@@ -1,0 +1,47 @@
+// The search for an opening's partner, by the readings of Walk.
+ghost use Rattle.std.specs.Prelude.{◌≡◌};
+ghost use Rattle.measure.specs.Walk.{walk_measure};
+ghost use Rattle.locate.specs.PartnerAhead.{ahead_on};
+
+use crate::depth::{depth_ahead, entry_at, over_ahead};
+use crate::nested::Nested;
+use grammar::Grammar;
+use measure::bounded_reading::Bounded;
+use measure::walk_reading::Passage;
+use seek::forward::Forward;
+
+#[derive(Clone, Copy)]
+pub struct PartnerAhead<'g, G> {
+    pub grammar: &'g G,
+}
+
+impl<'g, G: Grammar> Forward for PartnerAhead<'g, G> {
+    type Reading = Bounded<Passage>;
+
+    type At = Nested;
+
+    ghost scale = { λ s. walk_measure (G.Grammar.meaning s.grammar.now) };
+
+    ghost goes = { λ s. ahead_on (G.Grammar.meaning s.grammar.now) };
+
+    fn next(&self, at: Nested, byte: u8) -> Option<Nested> {
+        let depth = depth_ahead(self.grammar.role(at.state, byte), at.depth)?;
+        Some(Nested {
+            state: self.grammar.step(at.state, byte),
+            depth,
+        })
+    }
+
+    // A text whose unmatched closings are fewer than the openings so far is run through.
+    fn pass(&self, at: Nested, reading: &Bounded<Passage>) -> Option<Nested> {
+        let Bounded::Within(passage) = reading else {
+            return None;
+        };
+        let entry = entry_at(&passage.entries, at.state);
+        let depth = over_ahead(at.depth, passage.length, &entry)?;
+        Some(Nested {
+            state: entry.end,
+            depth,
+        })
+    }
+}

@@ -1,0 +1,74 @@
+// The search back for a closing's partner, by the readings of Walk.
+ghost use Rattle.std.specs.Prelude.{◌≡◌};
+ghost use Rattle.measure.specs.Walk.{walk_measure};
+ghost use Rattle.locate.specs.PartnerBehind.{trace_on, behind_on};
+
+use crate::depth::{depth_behind, entry_at, over_behind};
+use crate::traced::Traced;
+use grammar::Grammar;
+use measure::bounded_reading::Bounded;
+use measure::walk_reading::Passage;
+use meter::limit::LONGEST;
+use seek::backward::Backward;
+
+#[derive(Clone, Copy)]
+pub struct PartnerBehind<'g, G> {
+    pub grammar: &'g G,
+}
+
+impl<'g, G: Grammar> Backward for PartnerBehind<'g, G> {
+    type Reading = Bounded<Passage>;
+
+    type Fore = Option<Traced>;
+
+    type At = u32;
+
+    ghost scale = { λ s. walk_measure (G.Grammar.meaning s.grammar.now) };
+
+    ghost fore = { λ s. trace_on (G.Grammar.meaning s.grammar.now) };
+
+    ghost back = { λ s. behind_on (G.Grammar.meaning s.grammar.now) };
+
+    fn ahead(&self, state: Option<Traced>, byte: u8) -> Option<Traced> {
+        let from = state?;
+        if from.read >= LONGEST {
+            return None;
+        }
+        Some(Traced {
+            read: from.read + 1,
+            state: self.grammar.step(from.state, byte),
+        })
+    }
+
+    fn ahead_over(&self, state: Option<Traced>, reading: &Bounded<Passage>) -> Option<Traced> {
+        let from = state?;
+        let Bounded::Within(passage) = reading else {
+            return None;
+        };
+        if passage.length > LONGEST.saturating_sub(from.read) {
+            return None;
+        }
+        Some(Traced {
+            read: from.read + passage.length,
+            state: entry_at(&passage.entries, from.state).end,
+        })
+    }
+
+    fn prev(&self, state: Option<Traced>, byte: u8, at: u32) -> Option<u32> {
+        let from = state?;
+        depth_behind(self.grammar.role(from.state, byte), at)
+    }
+
+    // A text whose unmatched openings are fewer than the closings so far is run through.
+    fn pass_back(&self, state: Option<Traced>, reading: &Bounded<Passage>, at: u32) -> Option<u32> {
+        let from = state?;
+        let Bounded::Within(passage) = reading else {
+            return None;
+        };
+        if passage.length > LONGEST.saturating_sub(from.read) {
+            return None;
+        }
+        let entry = entry_at(&passage.entries, from.state);
+        over_behind(at, passage.length, &entry)
+    }
+}

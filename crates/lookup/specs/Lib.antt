@@ -1,0 +1,2 @@
+-- The manual, in this order.
+pub mod Partner

@@ -1,0 +1,50 @@
+// Hexadecimal digits: their values, and the digits of a value.
+ghost use Rattle.std.specs.Prelude.{◌≡◌, ◌<◌, ◌%◌, IfOk, IfSome, map};
+ghost use Rattle.notation.specs.Digits.{digit_value, lower_digit as lower_digit_of, upper_digit as upper_digit_of};
+
+use std::alloc::{AllocError, Global};
+
+// The value of a digit of either case.
+pub(crate) fn value_of(digit: u8) -> Option<u8>
+    ensures value { result ≡ digit_value digit }
+    ensures small { IfSome result (λ n. n < 16) }
+{
+    match digit {
+        b'0'..=b'9' => Some(digit - b'0'),
+        b'a'..=b'f' => Some(digit - b'a' + 10),
+        b'A'..=b'F' => Some(digit - b'A' + 10),
+        _ => None,
+    }
+}
+
+pub(crate) fn upper_digit(value: u8) -> u8
+    requires { value < 16 }
+    ensures { result ≡ upper_digit_of value }
+{
+    if value < 10 {
+        b'0' + value
+    } else {
+        b'A' + (value - 10)
+    }
+}
+
+fn lower_digit(value: u8) -> u8
+    requires { value < 16 }
+    ensures { result ≡ lower_digit_of value }
+{
+    if value < 10 {
+        b'0' + value
+    } else {
+        b'a' + (value - 10)
+    }
+}
+
+// One digit a cell, for its value mod 16.
+pub fn digits_text(heap: Global, cells: &[u8]) -> Result<Vec<u8>, AllocError>
+    ensures { IfOk result (λ v. v.items ≡ map (λ cell. lower_digit_of (cell % 16)) cells.now) }
+{
+    cells
+        .iter()
+        .map(|cell| lower_digit(*cell % 16))
+        .collect(heap)
+}

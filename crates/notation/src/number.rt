@@ -1,0 +1,27 @@
+// Reads a number that is written in decimal digits.
+ghost use Rattle.std.specs.Prelude.{◌≡◌};
+ghost use Rattle.notation.specs.Number.{longer_within, number_of};
+
+// The value with one more digit, if it is one and the value stays below 2^32.
+fn longer(value: u32, byte: u8) -> Option<u32>
+    ensures { result ≡ longer_within value byte }
+{
+    match byte {
+        b'0'..=b'9' => value.checked_mul(10)?.checked_add(u32::from(byte - b'0')),
+        _ => None,
+    }
+}
+
+// The number that a word is, if it is one.
+pub fn number(word: &[u8]) -> Option<u32>
+    ensures { result ≡ number_of word.now }
+{
+    if word.is_empty() {
+        return None;
+    }
+    let mut value = 0;
+    for byte in word {
+        value = longer(value, *byte)?;
+    }
+    Some(value)
+}

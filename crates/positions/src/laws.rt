@@ -1,0 +1,18 @@
+// The laws of positions: each is what a function here ensures, so that its proof is asked for.
+ghost use Rattle.positions.specs.Laws.{PositionsAscend, SpotIsLargest, SpotUndoesPosition, ColumnsAreUtf16};
+
+pub fn positions_ascend()
+    ensures { PositionsAscend }
+{}
+
+pub fn spot_is_largest()
+    ensures { SpotIsLargest }
+{}
+
+pub fn spot_undoes_position()
+    ensures { SpotUndoesPosition }
+{}
+
+pub fn columns_are_utf16()
+    ensures { ColumnsAreUtf16 }
+{}

@@ -1,6 +1,0 @@
-use Rattle.session.specs.Digits.{lower_digit, upper_digit}
-use Rattle.session.proofs.ReadBack.{pairs_read_back, lower_value, upper_value}
-use Rattle.session.proofs.laws.pairs_read_back.Goals as goal
-
-pub returns : goal.returns
-returns c = record { in_small = pairs_read_back lower_digit lower_value; in_capitals = pairs_read_back upper_digit upper_value }

@@ -1,5 +1,0 @@
-use Rattle.session.proofs.ReadBack.{quoted_reads_back}
-use Rattle.session.proofs.laws.quoted_text_reads_back.Goals as goal
-
-pub returns : goal.returns
-returns c = quoted_reads_back
