@@ -9,7 +9,7 @@ ghost use Rattle.editing.specs.Content.{text_in, model_in, document_measure};
 
 use crate::readings::Readings;
 use crate::states::state_before;
-use grammar::{Grammar, colour};
+use grammar::{Grammar, colour_cells};
 use meter::Meter;
 use model::{Change, Refusal};
 use tree::ChunkTree;
@@ -59,7 +59,7 @@ pub fn copy_colours<X: Copy, G: Grammar, H: Meter<Reading = X>>(
 {
     copy_text(tree, from, to, out)?;
     let state = state_before(tree, meter, from);
-    colour(
+    colour_cells(
         &meter.first.grammar,
         state,
         &mut out[0..(to - from) as usize],

@@ -1,5 +1,5 @@
 // Colouring and walking a run of bytes from a state: the leaves that every call uses.
-ghost use Rattle.std.specs.Prelude.{◌≡◌};
+ghost use Rattle.std.specs.Prelude.{◌≡◌, ◌++◌, length, take, drop};
 ghost use Rattle.automaton.specs.Walk.{walk as walk_from, colours_from};
 
 use crate::interface::Grammar;
@@ -15,15 +15,16 @@ pub fn walk<G: Grammar>(grammar: &G, state: u8, bytes: &[u8]) -> u8
     behind
 }
 
-// Colours cells that hold bytes: each byte, read from `state` on, gives way to its class. Gives the state behind the bytes.
-pub fn colour<G: Grammar>(grammar: &G, state: u8, cells: &mut [u8]) -> u8
-    ensures behind { result ≡ walk_from (G.meaning grammar.now) state cells.old }
-    ensures coloured { cells.new ≡ colours_from (G.meaning grammar.now) state cells.old }
+// Colours the bytes, read from `state` on, into the front of `out`, and gives the state behind them.
+// Where `out` is the shorter, only the bytes that it has room for are read; where it is longer, its rest stays.
+pub fn colour<G: Grammar>(grammar: &G, state: u8, bytes: &[u8], out: &mut [u8]) -> u8
+    ensures behind { result ≡ walk_from (G.meaning grammar.now) state (take (length out.old) bytes.now) }
+    ensures coloured { out.new ≡ colours_from (G.meaning grammar.now) state (take (length out.old) bytes.now) ++ drop (length bytes.now) out.old }
 {
     let mut now_in = state;
-    for i in 0..cells.len() {
-        let byte = cells[i];
-        cells[i] = grammar.class(now_in, byte);
+    for i in 0..bytes.len().min(out.len()) {
+        let byte = bytes[i];
+        out[i] = grammar.class(now_in, byte);
         now_in = grammar.step(now_in, byte);
     }
     now_in

@@ -10,18 +10,18 @@ use measure::walk_reading::Passage;
 use seek::forward::Forward;
 
 #[derive(Clone, Copy)]
-pub struct StateBefore<'g, G> {
-    pub grammar: &'g G,
+pub struct StateBefore<G> {
+    pub grammar: G,
 }
 
-impl<'g, G: Grammar> Forward for StateBefore<'g, G> {
+impl<G: Grammar> Forward for StateBefore<G> {
     type Reading = Bounded<Passage>;
 
     type At = Walked;
 
-    ghost scale = { λ s. walk_measure (G.Grammar.meaning s.grammar.now) };
+    ghost scale = { λ s. walk_measure (G.Grammar.meaning s.grammar) };
 
-    ghost goes = { λ s. walk_on (G.Grammar.meaning s.grammar.now) };
+    ghost goes = { λ s. walk_on (G.Grammar.meaning s.grammar) };
 
     fn next(&self, at: Walked, byte: u8) -> Option<Walked> {
         if at.left == 0 {

@@ -1,3 +1,4 @@
 pub mod Palette
+pub mod Whole
 pub mod Pieces
 pub mod Summarized

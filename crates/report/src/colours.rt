@@ -12,8 +12,8 @@ use std::alloc::{AllocError, Global};
 pub fn colours_of<G: Grammar>(heap: Global, grammar: &G, text: &[u8]) -> Result<Vec<u8>, AllocError>
     ensures { IfOk result (λ v. v.items ≡ colours (G.meaning grammar.now) text.now) }
 {
-    let mut cells = Vec::from_slice(heap, text)?;
-    colour(grammar, 0, &mut cells);
+    let mut cells = vec![in heap; 0; text.len()]?;
+    colour(grammar, 0, text, &mut cells);
     Ok(cells)
 }
 

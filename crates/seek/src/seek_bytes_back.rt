@@ -1,9 +1,20 @@
 // A search through a run of bytes from right to left: forwards to their end, and back again.
 ghost use Rattle.std.specs.Prelude.{◌≡◌};
-ghost use Rattle.search.specs.Backwards.{back_stop};
+ghost use Rattle.search.specs.Backwards.{forwards, back_stop};
 
 use crate::backward::Backward;
 use search::stop::Stop;
+
+// The forward state behind the bytes.
+pub fn ahead_of_bytes<S: Backward>(search: &S, state: S::Fore, bytes: &[u8]) -> S::Fore
+    ensures { result ≡ forwards (S.fore search.now) state bytes.now }
+{
+    let mut behind = state;
+    for byte in bytes {
+        behind = search.ahead(behind, *byte);
+    }
+    behind
+}
 
 // Where the search comes to in the bytes, from behind them.
 pub fn seek_bytes_back<S: Backward>(

@@ -10,7 +10,6 @@ use measure::walk_reading::Passage;
 use meter::{Meter, Pair, Place};
 use slots::slot::{Extent as Size, Node, Slot};
 use std::alloc::{AllocError, Global};
-use std::process::Abort;
 use std::test::Fail;
 use tree::ChunkTree;
 use walks::Walk;
@@ -62,7 +61,7 @@ fn some_bytes(heap: Global, dice: &mut Dice) -> Result<Vec<u8>, AllocError> {
 
 // The tree has the bytes and the chunks of the plain lists, and the meter's readings of them.
 fn agree(
-    rt: &impl Abort,
+    rt: &HostRuntime,
     dice: &mut Dice,
     tree: &ChunkTree<Reading>,
     plain: &Plain,
@@ -88,7 +87,7 @@ fn agree(
 
 // One replacement in both: it is done, or refused with nothing changed, as the plain lists foresee.
 fn replace_in_both(
-    rt: &impl Abort,
+    rt: &HostRuntime,
     heap: Global,
     dice: &mut Dice,
     tree: &mut ChunkTree<Reading>,

@@ -14,6 +14,6 @@ returns g c =
     let range = range_passed (model_in T None) c.args.from c.args.to (length out) ok.0 in
     record {
       answer = told.answer;
-      written = λ kept. coloured_front a (text_in T) out c.copy_text.new.out c.colour.new.cells c.args.from c.args.to c.state_before-state.result range.0 range.1 (c.state_before-state.ensures kept) told.written c.colour.ensures.coloured;
+      written = λ kept. coloured_front a (text_in T) out c.copy_text.new.out c.colour_cells.new.cells c.args.from c.args.to c.state_before-state.result range.0 range.1 (c.state_before-state.ensures kept) told.written c.colour_cells.ensures.coloured;
       same = tt;
     }

@@ -1,5 +1,4 @@
-use Rattle.std.proofs.Common.{◌≡◌, ◌+◌, false, length, drop, sym, ap, ◌∙◌, arith}
-use Rattle.search.specs.declared.stop.Stop.{Stop}
+use Rattle.std.proofs.Common.{false, length, drop, sym, ap, ◌∙◌, arith}
 use Rattle.search.specs.Forwards.{stop}
 use Rattle.search.proofs.Forwards.{stops_at, stop_through}
 use Rattle.slots.specs.View.{chunk_of}

@@ -8,7 +8,7 @@ use Rattle.locate.proofs.state_before.StateBeforeForward.pass.Goals as goal
 
 pub returns-in-Within : goal.returns-in-Within
 returns-in-Within g c text e =
-    let grammar = c.args.self.now.grammar.now in
+    let grammar = c.args.self.now.grammar in
     let a = g.G.Grammar.meaning grammar in
     let lawful = g.G.Grammar.lawful grammar in
     let at = c.args.at in

@@ -1,0 +1,29 @@
+// A grammar that is lent answers as the grammar itself does.
+use crate::interface::Grammar;
+use automaton::role::Role;
+
+impl<G: Grammar> Grammar for &G {
+    ghost meaning = { λ g. G.meaning g.now };
+
+    ghost lawful = { λ g. G.lawful g.now };
+
+    fn count(&self) -> u8 {
+        (**self).count()
+    }
+
+    fn step(&self, state: u8, byte: u8) -> u8 {
+        (**self).step(state, byte)
+    }
+
+    fn class(&self, state: u8, byte: u8) -> u8 {
+        (**self).class(state, byte)
+    }
+
+    fn is_open(&self, state: u8) -> bool {
+        (**self).is_open(state)
+    }
+
+    fn role(&self, state: u8, byte: u8) -> Role {
+        (**self).role(state, byte)
+    }
+}
