@@ -1,4 +1,4 @@
--- The meter of places is lawful, and its reading of a text is what `place-reading` says.
+-- The meter of places is lawful, and its reading of a text is what `place_reading` says.
 use Rattle.std.proofs.Common.{◌≡◌, ℕ, ◌+◌, ◌*◌, ◌≤◌, cond, eqb, List, [], ◌∷◌, ◌++◌, length, sym, refl, ap, ◌∙◌, arith}
 use Rattle.std.proofs.lemmas.List.{length-append}
 use Rattle.std.proofs.lemmas.Bool.Decides.{nat_tests}

@@ -1,4 +1,4 @@
--- The meter of walks is lawful, its reading of a text is what `walk-reading` says, and each entry tells of the text.
+-- The meter of walks is lawful, its reading of a text is what `walk_reading` says, and each entry tells of the text.
 use Rattle.std.proofs.Common.{◌≡◌, ℕ, ◌+◌, ◌-◌, ◌<◌, ◌≤◌, min, cond, ltb, List, [], ◌∷◌, ◌++◌, length, sym, refl, ap, ◌∙◌, subst, ⊎_elim, arith}
 use Rattle.std.proofs.lemmas.List.{length-append}
 use Rattle.std.proofs.lemmas.Bool.{cases_lt, cond-true, cond-false, lt-ltb, le-ltb}

@@ -1,5 +1,5 @@
 -- The meter of places: the bytes of a text, its line ends, and the units of its last line.
--- The place behind a text stands on the line that `line-ends` counts, at the column that `units` counts.
+-- The place behind a text stands on the line that `line_ends` counts, at the column that `units` counts.
 use Rattle.std.specs.Prelude.{◌≡◌, ℕ, ◌+◌, Bool, cond, ◌&&◌, List, [], ◌∷◌, length, ◌==◌, nat_le}
 use Rattle.measure.specs.Measure.{Measure, reading}
 use Rattle.measure.specs.Bounded.{bounded, join_bounded, capped}
