@@ -59,35 +59,58 @@ fn some_bytes(heap: Global, dice: &mut Dice) -> Result<Vec<u8>, AllocError> {
     Ok(bytes)
 }
 
+// On what the tree and the plain lists do not agree.
+#[derive(Clone, Copy, Debug)]
+enum On {
+    Bytes,
+    Chunks,
+    Text,
+    FirstPlace,
+    LastPlace,
+    WholeReading,
+    PartReading,
+    Outcome,
+}
+
+fn agreed(holds: bool, on: On) -> Result<(), On> {
+    if holds { Ok(()) } else { Err(on) }
+}
+
 // The tree has the bytes and the chunks of the plain lists, and the meter's readings of them.
-fn agree(
-    rt: &HostRuntime,
-    dice: &mut Dice,
-    tree: &ChunkTree<Reading>,
-    plain: &Plain,
-) -> Result<(), Fail> {
-    assert!(rt; tree.bytes() as usize == plain.text.len());
-    assert!(rt; tree.chunks() as usize == plain.lengths.len());
-    assert!(rt; tree.same(0, &plain.text));
+fn agree(dice: &mut Dice, tree: &ChunkTree<Reading>, plain: &Plain) -> Result<(), Fail> {
+    agreed(tree.bytes() as usize == plain.text.len(), On::Bytes)?;
+    agreed(tree.chunks() as usize == plain.lengths.len(), On::Chunks)?;
+    agreed(tree.same(0, &plain.text), On::Text)?;
     let mut place = 0u32;
     for (k, length) in plain.lengths.iter().enumerate() {
         let first = tree.spot(place);
-        assert!(rt; first.chunk as usize == k && first.inside == 0);
+        agreed(
+            first.chunk as usize == k && first.inside == 0,
+            On::FirstPlace,
+        )?;
         place = place.saturating_add(u32::try_from(*length)?);
         let last = tree.spot(place.saturating_sub(1));
-        assert!(rt; last.chunk as usize == k && last.inside as usize == length.saturating_sub(1));
+        agreed(
+            last.chunk as usize == k && last.inside as usize == length.saturating_sub(1),
+            On::LastPlace,
+        )?;
     }
-    assert!(rt; tree.reading(&meter(), 0, tree.bytes()) == meter().measure(&plain.text));
+    agreed(
+        tree.reading(&meter(), 0, tree.bytes()) == meter().measure(&plain.text),
+        On::WholeReading,
+    )?;
     let end = (dice.roll(2000) as usize).min(plain.text.len());
     let begin = (dice.roll(2000) as usize).min(end);
     let part = tree.reading(&meter(), u32::try_from(begin)?, u32::try_from(end)?);
-    assert!(rt; part == meter().measure(&plain.text[begin..end]));
+    agreed(
+        part == meter().measure(&plain.text[begin..end]),
+        On::PartReading,
+    )?;
     Ok(())
 }
 
 // One replacement in both: it is done, or refused with nothing changed, as the plain lists foresee.
 fn replace_in_both(
-    rt: &HostRuntime,
     heap: Global,
     dice: &mut Dice,
     tree: &mut ChunkTree<Reading>,
@@ -100,11 +123,11 @@ fn replace_in_both(
         .saturating_sub(dice.roll(1));
     let outcome = plain.outcome(SLOTS as usize, from as usize, to as usize, bytes.len());
     let done = tree.replace(&meter(), from, to, &bytes);
-    assert!(rt; done == matches!(outcome, Outcome::Done));
+    agreed(done == matches!(outcome, Outcome::Done), On::Outcome)?;
     if done {
         *plain = plain.replaced(heap, from as usize, to as usize, &bytes)?;
     }
-    agree(rt, dice, tree, plain)?;
+    agree(dice, tree, plain)?;
     Ok(outcome)
 }
 
@@ -122,7 +145,7 @@ fn tree_follows_plain_lists(rt: HostRuntime) -> Result<(), Fail> {
     let mut no_run = 0u16;
     let mut no_room = 0u16;
     for _ in 0..600 {
-        match replace_in_both(&rt, heap, &mut dice, &mut tree, &mut plain)? {
+        match replace_in_both(heap, &mut dice, &mut tree, &mut plain)? {
             Outcome::Done => done = done.saturating_add(1),
             Outcome::NoRun => no_run = no_run.saturating_add(1),
             Outcome::NoRoom => no_room = no_room.saturating_add(1),
