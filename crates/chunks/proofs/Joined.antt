@@ -4,9 +4,9 @@ use Rattle.std.proofs.lemmas.List.{length-append, take-append-drop, take_at, dro
 use Rattle.std.proofs.lemmas.Bool.{cases_lt}
 use Rattle.std.specs.List.{AllByRecursion as All}
 use Rattle.chunks.specs.Cut.{joined, Chunk}
-use Rattle.chunks.specs.Spot.{spot_in, shifted}
-use Rattle.chunks.specs.declared.spot.Spot.{Spot}
-use Rattle.chunks.proofs.Spotting.{spot_here, spot_behind}
+use Rattle.chunks.specs.SizedSpot.{sized_spot_in, sized_shifted}
+use Rattle.chunks.specs.declared.sized_spot.SizedSpot.{SizedSpot}
+use Rattle.chunks.proofs.SizedSpotting.{sized_here, sized_behind}
 
 pub joined_append : (xs ys : List (List ℕ)) → joined (xs ++ ys) ≡ joined xs ++ joined ys
 joined_append [] ys = refl
@@ -39,7 +39,7 @@ pub start_monotone : (cs : List (List ℕ)) (m n : ℕ) → m ≤ n → start cs
 start_monotone cs m n h = let sum : m + (n - m) ≡ n = omega arith in subst (λ k. start cs m ≤ start cs k) sum (start_grows cs m (n - m))
 
 -- What a spot says of a place within the text.
-pub record Spotted (cs : List (List ℕ)) (p : ℕ) (s : Spot) : Type 0 where
+pub record Spotted (cs : List (List ℕ)) (p : ℕ) (s : SizedSpot) : Type 0 where
   pub some_chunk : s.chunk < length cs
   pub begins : start cs s.chunk + s.inside ≡ p
   pub inside_it : s.inside < s.size
@@ -53,7 +53,7 @@ spotted_first c cs p h = record {
   ends = omega (arith, length-append c []);
 }
 
-spotted_later : (c : List ℕ) (cs : List (List ℕ)) (p : ℕ) → length c ≤ p → (s : Spot) → Spotted cs (p - length c) s → Spotted (c ∷ cs) p (shifted 1 s)
+spotted_later : (c : List ℕ) (cs : List (List ℕ)) (p : ℕ) → length c ≤ p → (s : SizedSpot) → Spotted cs (p - length c) s → Spotted (c ∷ cs) p (sized_shifted 1 s)
 spotted_later c cs p h s at =
     let one : (n : ℕ) → start (c ∷ cs) (suc n) ≡ length c + start cs n = λ n. length-append c (joined (take n cs)) in
     let first : 1 + s.chunk ≡ suc s.chunk = omega arith in
@@ -69,22 +69,22 @@ spotted_later c cs p h s at =
       ends = omega arith;
     }
 
-pub spotted : (cs : List (List ℕ)) (p : ℕ) → p < length (joined cs) → Spotted cs p (spot_in cs p)
+pub spotted : (cs : List (List ℕ)) (p : ℕ) → p < length (joined cs) → Spotted cs p (sized_spot_in cs p)
 spotted [] p h = absurd (omega arith)
 spotted (c ∷ cs) p h =
-    ⊎_elim (λ e. subst (Spotted (c ∷ cs) p) (sym (spot_here c cs p e)) (spotted_first c cs p e))
-    (λ e. subst (Spotted (c ∷ cs) p) (sym (spot_behind c cs p e)) (spotted_later c cs p e _ (spotted cs (p - length c) (omega (arith, length-append c (joined cs))))))
+    ⊎_elim (λ e. subst (Spotted (c ∷ cs) p) (sym (sized_here c cs p e)) (spotted_first c cs p e))
+    (λ e. subst (Spotted (c ∷ cs) p) (sym (sized_behind c cs p e)) (spotted_later c cs p e _ (spotted cs (p - length c) (omega (arith, length-append c (joined cs))))))
     (cases_lt p (length c))
 
 -- Of chunk n itself: its first byte, if it has one, and its last byte have their spot in it.
-pub spotted_alone : (cs : List (List ℕ)) (p n : ℕ) (s : Spot) → Spotted cs p s → start cs n ≤ p → p < start cs (n + 1) → s.chunk ≡ n
+pub spotted_alone : (cs : List (List ℕ)) (p n : ℕ) (s : SizedSpot) → Spotted cs p s → start cs n ≤ p → p < start cs (n + 1) → s.chunk ≡ n
 spotted_alone cs p n s at low high =
     ⊎_elim (λ h. let later = start_monotone cs (s.chunk + 1) n (omega arith) in let begins = at.begins in let ends = at.ends in let inside = at.inside_it in absurd (omega arith))
     (λ h. ⊎_elim (λ k. let later = start_monotone cs (n + 1) s.chunk (omega arith) in let begins = at.begins in absurd (omega arith)) (λ k. omega arith) (cases_lt n s.chunk))
     (cases_lt s.chunk n)
 
 -- A place further on has its spot in no earlier chunk.
-pub spots_ordered : (cs : List (List ℕ)) (p q : ℕ) (s t : Spot) → Spotted cs p s → Spotted cs q t → p ≤ q → s.chunk ≤ t.chunk
+pub spots_ordered : (cs : List (List ℕ)) (p q : ℕ) (s t : SizedSpot) → Spotted cs p s → Spotted cs q t → p ≤ q → s.chunk ≤ t.chunk
 spots_ordered cs p q s t at bt h =
     ⊎_elim (λ k. let later = start_monotone cs (t.chunk + 1) s.chunk (omega arith) in let a = at.begins in let b = bt.begins in let c = bt.ends in let d = bt.inside_it in absurd (omega arith)) (λ k. k)
     (cases_lt t.chunk s.chunk)
@@ -102,5 +102,5 @@ start_step (c ∷ cs) each (suc n) h =
     let next = ap (start (c ∷ cs)) sum ∙ length-append c (joined (take (n + 1) cs)) in
     (omega arith, omega arith)
 
-pub spot_small : (cs : List (List ℕ)) → All Chunk cs → (p : ℕ) (s : Spot) → Spotted cs p s → s.size ≤ 64
+pub spot_small : (cs : List (List ℕ)) → All Chunk cs → (p : ℕ) (s : SizedSpot) → Spotted cs p s → s.size ≤ 64
 spot_small cs each p s at = let step = (start_step cs each s.chunk at.some_chunk).1 in let ends = at.ends in omega arith

@@ -9,7 +9,7 @@ use Rattle.chunks.specs.Footprint.{count, below}
 use Rattle.chunks.specs.Cut.{joined}
 use Rattle.chunks.specs.Spot.{shifted, spot_in}
 
-spot_first : (c : List ℕ) (cs : List (List ℕ)) (p : ℕ) → p < length c → spot_in (c ∷ cs) p ≡ record { chunk = 0; inside = p; size = length c }
+spot_first : (c : List ℕ) (cs : List (List ℕ)) (p : ℕ) → p < length c → spot_in (c ∷ cs) p ≡ record { chunk = 0; inside = p }
 spot_first c cs p h = cond-true (ltb p (length c)) _ _ (lt-ltb p (length c) h)
 
 spot_later : (c : List ℕ) (cs : List (List ℕ)) (p : ℕ) → length c ≤ p → spot_in (c ∷ cs) p ≡ shifted 1 (spot_in cs (p - length c))
@@ -28,17 +28,17 @@ spot_right [] ys p h =
     let s = spot_in ys p in
     let e : p ≡ p - 0 = omega arith in
     let zero_more : s.chunk ≡ 0 + s.chunk = omega arith in
-    let lift : s ≡ shifted 0 s = λ z. record { chunk = zero_more z; inside = s.inside; size = s.size } in
+    let lift : s ≡ shifted 0 s = λ z. record { chunk = zero_more z; inside = s.inside } in
     lift ∙ ap (λ q. shifted 0 (spot_in ys q)) e
 spot_right (c ∷ xs) ys p h =
     let long = length-append c (joined xs) in
     let s = spot_in ys (p - length c - length (joined xs)) in
     let e : p - length c - length (joined xs) ≡ p - length (c ++ joined xs) = omega arith in
     let sum : 1 + (length xs + s.chunk) ≡ suc (length xs) + s.chunk = omega arith in
-    let lift : shifted 1 (shifted (length xs) s) ≡ shifted (suc (length xs)) s = λ z. record { chunk = sum z; inside = s.inside; size = s.size } in
+    let lift : shifted 1 (shifted (length xs) s) ≡ shifted (suc (length xs)) s = λ z. record { chunk = sum z; inside = s.inside } in
     spot_later c (xs ++ ys) p (omega arith) ∙ ap (shifted 1) (spot_right xs ys (p - length c) (omega arith)) ∙ lift ∙ ap (λ q. shifted (suc (length xs)) (spot_in ys q)) e
 
-pub spot_here : (c : List ℕ) (cs : List (List ℕ)) (p : ℕ) → p < length c → spot_in (c ∷ cs) p ≡ record { chunk = 0; inside = p; size = length c }
+pub spot_here : (c : List ℕ) (cs : List (List ℕ)) (p : ℕ) → p < length c → spot_in (c ∷ cs) p ≡ record { chunk = 0; inside = p }
 spot_here = spot_first
 
 pub spot_behind : (c : List ℕ) (cs : List (List ℕ)) (p : ℕ) → length c ≤ p → spot_in (c ∷ cs) p ≡ shifted 1 (spot_in cs (p - length c))

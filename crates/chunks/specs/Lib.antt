@@ -4,4 +4,5 @@ pub mod Footprint
 pub mod Sides
 pub mod Cut
 pub mod Spot
+pub mod SizedSpot
 pub mod Over

@@ -5,7 +5,9 @@
 
 pub mod laws;
 pub mod side;
+pub mod sized_spot;
 pub mod spot;
 
 pub use side::Side;
+pub use sized_spot::SizedSpot;
 pub use spot::Spot;

@@ -1,8 +1,7 @@
-// A place in a list of chunks: how many chunks lie before it, how many bytes of the next one, and how long that one is.
+// A place in a list of chunks: how many chunks lie before it, and how many bytes of the next one.
 
 #[derive(Clone, Copy, PartialEq, Eq, Debug)]
 pub struct Spot {
     pub chunk: u16,
     pub inside: u32,
-    pub size: u8,
 }

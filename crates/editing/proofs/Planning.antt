@@ -3,8 +3,8 @@ use Rattle.std.proofs.Common.{◌≡◌, ℕ, ◌+◌, ◌-◌, ◌<◌, ◌≤�
 use Rattle.std.specs.List.{AllByRecursion as All}
 use Rattle.std.proofs.lemmas.Bool.{cond-true, cond-false, lt-ltb, le-ltb, le-leb, lt-leb, leb-true, and_from, and_parts, cases_Bool}
 use Rattle.chunks.specs.Cut.{joined, Chunk, needed}
-use Rattle.chunks.specs.Spot.{spot_in}
-use Rattle.chunks.specs.declared.spot.Spot.{Spot}
+use Rattle.chunks.specs.SizedSpot.{sized_spot_in}
+use Rattle.chunks.specs.declared.sized_spot.SizedSpot.{SizedSpot}
 use Rattle.chunks.proofs.Joined.{start, start_within, start_step, Spotted, spotted, spotted_alone}
 use Rattle.model.specs.declared.refusal.Refusal.{Refusal}
 use Rattle.model.specs.declared.refusal.Refusal.TheVariants.{OutsideText, TooManyBytes, TooManyChunks}
@@ -18,21 +18,21 @@ same_run : (f f' l l' s s' e e' : ℕ) → f ≡ f' → l ≡ l' → s ≡ s' �
 same_run f f' l l' s s' e e' p q u v = λ z. record { first = p z; last = q z; start = u z; end = v z }
 
 -- The chunks between two bytes, from the spots of the bytes.
-pub record SpotsTell (cs : List (List ℕ)) (low high : ℕ) (s t : Spot) : Type 0 where
+pub record SpotsTell (cs : List (List ℕ)) (low high : ℕ) (s t : SizedSpot) : Type 0 where
   pub low_inside : s.inside ≤ low
   pub high_inside : t.inside ≤ high
   pub end_within : high - t.inside + t.size ≤ length (joined cs)
-  pub run_is : ◌≡◌ {A = Run} (record { first = s.chunk; last = t.chunk + 1; start = low - s.inside; end = high - t.inside + t.size }) (run_of cs (spot_in cs low).chunk ((spot_in cs high).chunk + 1))
+  pub run_is : ◌≡◌ {A = Run} (record { first = s.chunk; last = t.chunk + 1; start = low - s.inside; end = high - t.inside + t.size }) (run_of cs (sized_spot_in cs low).chunk ((sized_spot_in cs high).chunk + 1))
 
-pub spots_tell : (cs : List (List ℕ)) (low high : ℕ) (s t : Spot) → low ≤ high → high < length (joined cs) → s ≡ spot_in cs low → t ≡ spot_in cs high → SpotsTell cs low high s t
+pub spots_tell : (cs : List (List ℕ)) (low high : ℕ) (s t : SizedSpot) → low ≤ high → high < length (joined cs) → s ≡ sized_spot_in cs low → t ≡ sized_spot_in cs high → SpotsTell cs low high s t
 spots_tell cs low high s t order within is it =
     let a = subst (Spotted cs low) (sym is) (spotted cs low (omega arith)) in
     let b = subst (Spotted cs high) (sym it) (spotted cs high within) in
     let ab = a.begins in
     let bb = b.begins in
     let be = b.ends in
-    let first = ap (λ (x : Spot). x.chunk) is in
-    let last = ap (λ (x : Spot). x.chunk + 1) it in
+    let first = ap (λ (x : SizedSpot). x.chunk) is in
+    let last = ap (λ (x : SizedSpot). x.chunk + 1) it in
     let starts : low - s.inside ≡ start cs s.chunk = omega arith in
     let ends : high - t.inside + t.size ≡ start cs (t.chunk + 1) = omega arith in
     record {
@@ -50,11 +50,11 @@ module _ (cs : List (List ℕ)) (each : All Chunk cs) (run : Run) (is : run ≡ 
   ends_at = ap (λ (r : Run). r.end) is
 
   -- The chunk on the right.
-  pub record RightTold (s : Spot) : Type 0 where
+  pub record RightTold (s : SizedSpot) : Type 0 where
     pub end_within : run.end + s.size ≤ length (joined cs)
     pub run_is : ◌≡◌ {A = Run} (record { first = run.first; last = run.last + 1; start = run.start; end = run.end + s.size }) (with_neighbour cs run)
 
-  pub right_told : run.last < length cs → (s : Spot) → s ≡ spot_in cs run.end → RightTold s
+  pub right_told : run.last < length cs → (s : SizedSpot) → s ≡ sized_spot_in cs run.end → RightTold s
   right_told more s e =
       let step = (start_step cs each run.last more).0 in
       let at_end = ends_at in
@@ -70,7 +70,7 @@ module _ (cs : List (List ℕ)) (each : All Chunk cs) (run : Run) (is : run ≡ 
       }
 
   -- The chunk on the left, where there is none on the right.
-  pub record LeftTold (s : Spot) : Type 0 where
+  pub record LeftTold (s : SizedSpot) : Type 0 where
     pub some_byte : 1 ≤ run.start
     pub size_before : s.size ≤ run.start
     pub run_is : ◌≡◌ {A = Run} (record { first = run.first - 1; last = run.last; start = run.start - s.size; end = run.end }) (with_neighbour cs run)
@@ -81,7 +81,7 @@ module _ (cs : List (List ℕ)) (each : All Chunk cs) (run : Run) (is : run ≡ 
       let step = (start_step cs each (run.first - 1) (omega arith)).0 in
       omega (arith, starts_at, ap (start cs) sum)
 
-  pub left_told : length cs ≤ run.last → 0 < run.first → (s : Spot) → s ≡ spot_in cs (run.start - 1) → LeftTold s
+  pub left_told : length cs ≤ run.last → 0 < run.first → (s : SizedSpot) → s ≡ sized_spot_in cs (run.start - 1) → LeftTold s
   left_told none some s e =
       let sum : run.first - 1 + 1 ≡ run.first = omega arith in
       let step = (start_step cs each (run.first - 1) (omega arith)).0 in

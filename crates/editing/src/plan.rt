@@ -1,6 +1,6 @@
 // Which chunks an edit replaces, and whether it can be done.
 ghost use Rattle.std.specs.Prelude.{◌≡◌, ℕ, ◌+◌, ◌-◌, ◌^◌, ◌<◌, ◌≤◌, List, length, IfOk, None, OnOk};
-ghost use Rattle.chunks.specs.Spot.{spot_in};
+ghost use Rattle.chunks.specs.SizedSpot.{sized_spot_in};
 ghost use Rattle.model.specs.Edit.{run_of, touched as touched_by, middle_length, with_neighbour as neighbour_taken, affected as affected_by};
 ghost use Rattle.model.specs.Calls.{answered, change_refusal};
 ghost use Rattle.tree.specs.Public.{chunks_now};
@@ -20,10 +20,10 @@ fn run_between<R: Copy>(tree: &ChunkTree<R>, low: u32, high: u32) -> Run
     requires ordered { low ≤ high }
     requires within { high < length (text_in tree.now) }
     requires short { length (text_in tree.now) < 2 ^ 32 }
-    ensures { result ≡ run_of (chunks_now tree.now) (spot_in (chunks_now tree.now) low).chunk ((spot_in (chunks_now tree.now) high).chunk + 1) }
+    ensures { result ≡ run_of (chunks_now tree.now) (sized_spot_in (chunks_now tree.now) low).chunk ((sized_spot_in (chunks_now tree.now) high).chunk + 1) }
 {
-    let first = tree.spot(low);
-    let last = tree.spot(high);
+    let first = tree.sized_spot(low);
+    let last = tree.sized_spot(high);
     Run {
         first: first.chunk,
         last: last.chunk + 1,
@@ -62,7 +62,7 @@ fn with_neighbour<R: Copy>(tree: &ChunkTree<R>, run: Run) -> Run
     ensures { result ≡ neighbour_taken (chunks_now tree.now) run }
 {
     if run.last < tree.chunks() {
-        let next = tree.spot(run.end);
+        let next = tree.sized_spot(run.end);
         return Run {
             last: run.last + 1,
             end: run.end + next.size as u32,
@@ -70,7 +70,7 @@ fn with_neighbour<R: Copy>(tree: &ChunkTree<R>, run: Run) -> Run
         };
     }
     if run.first > 0 {
-        let before = tree.spot(run.start - 1);
+        let before = tree.sized_spot(run.start - 1);
         return Run {
             first: run.first - 1,
             start: run.start - before.size as u32,

@@ -1,6 +1,6 @@
 // Place: a meter of bytes, line ends and UTF-16 units, by which places become lines and columns.
 ghost use Rattle.std.specs.Prelude.{◌≡◌, ◌+◌};
-ghost use Rattle.measure.specs.Place.{ends_line, width as width_of_lem, place_measure, join_extents};
+ghost use Rattle.measure.specs.Place.{ends_line, width as width_of, place_measure, join_extents};
 ghost use Rattle.measure.proofs.Place.{place_lawful};
 
 use crate::interface::Meter;
@@ -20,7 +20,7 @@ pub fn ends_line(byte: u8) -> bool
 
 // The UTF-16 units that a byte stands for.
 pub fn width(byte: u8) -> u32
-    ensures { result ≡ width_of_lem byte }
+    ensures { result ≡ width_of byte }
 {
     match byte {
         0x80..=0xBF => 0,

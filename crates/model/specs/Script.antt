@@ -1,6 +1,6 @@
 -- SCRIPT: records one after another, each an EDIT and the PAINT of its due. The first record that is refused ends it; what was done
 -- before stays done.
-use Rattle.std.specs.Prelude.{◌≡◌, ℕ, suc, ◌+◌, ◌&&◌, List, [], ◌∷◌, length, Some, None, Option, nat_le}
+use Rattle.std.specs.Prelude.{◌≡◌, ℕ, suc, ◌&&◌, List, [], ◌∷◌, length, Some, None, Option, nat_le}
 use Rattle.std.specs.List.{between}
 use Rattle.automaton.specs.Automaton.{Automaton}
 use Rattle.model.specs.declared.change.Change.{Change}

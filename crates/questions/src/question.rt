@@ -1,6 +1,7 @@
 // Questions about the tree that memory holds, answered by going down one path.
 ghost use Rattle.std.specs.Prelude.{All, ◌≡◌, ℕ, ◌+◌, ◌<◌, ◌≤◌, length};
 ghost use Rattle.chunks.specs.Tree.{Tree, Balanced, height as height_of};
+ghost use Rattle.chunks.specs.SizedSpot.{sized_spot_in};
 ghost use Rattle.chunks.specs.Spot.{spot_in};
 ghost use Rattle.chunks.specs.Cut.{Chunk};
 ghost use Rattle.slots.specs.View.{extent_of, chunks_of, size_of, Roomy};
@@ -9,7 +10,7 @@ ghost use Rattle.slots.specs.Sound.{Sound, tree_of, chunks_in};
 
 use balance::join::child;
 use balance::link::extent;
-use chunks::{Side, Spot};
+use chunks::{Side, SizedSpot, Spot};
 use slots::memory::Memory;
 use slots::slot::Extent;
 
@@ -36,12 +37,12 @@ pub fn chunk_length<R: Copy>(memory: &Memory<R>, i: u16) -> u8
 }
 
 // Where a place lies among the chunks of a tree.
-fn spot_under<R: Copy>(memory: &Memory<R>, link: Option<u16>, place: u32) -> Spot
+fn spot_under<R: Copy>(memory: &Memory<R>, link: Option<u16>, place: u32) -> SizedSpot
     requires { (t : Tree) × Held memory.now link t }
-    ensures { (t : Tree) → Held memory.now link t → result ≡ spot_in (chunks_of memory.now t) place }
+    ensures { (t : Tree) → Held memory.now link t → result ≡ sized_spot_in (chunks_of memory.now t) place }
 {
     let Some(i) = link else {
-        return Spot {
+        return SizedSpot {
             chunk: 0,
             inside: place,
             size: 0,
@@ -56,18 +57,27 @@ fn spot_under<R: Copy>(memory: &Memory<R>, link: Option<u16>, place: u32) -> Spo
     let size = chunk_length(memory, i);
     let own = size as u32;
     if inside < own {
-        return Spot {
+        return SizedSpot {
             chunk: before.chunks,
             inside,
             size,
         };
     }
     let rest = spot_under(memory, child(memory, i, Side::Right), inside - own);
-    Spot {
+    SizedSpot {
         chunk: before.chunks + 1 + rest.chunk,
         inside: rest.inside,
         size: rest.size,
     }
+}
+
+// Where a place lies among the chunks, and how long the chunk is that has it.
+pub fn sized_spot<R: Copy>(memory: &Memory<R>, link: Option<u16>, place: u32) -> SizedSpot
+    requires { Sound memory.now link }
+    ensures is { result ≡ sized_spot_in (chunks_in memory.now link) place }
+    ensures few { result.chunk ≤ 4096 }
+{
+    spot_under(memory, link, place)
 }
 
 // Where a place lies among the chunks.
@@ -76,5 +86,5 @@ pub fn spot<R: Copy>(memory: &Memory<R>, link: Option<u16>, place: u32) -> Spot
     ensures is { result ≡ spot_in (chunks_in memory.now link) place }
     ensures few { result.chunk ≤ 4096 }
 {
-    spot_under(memory, link, place)
+    sized_spot(memory, link, place).spot()
 }

@@ -1,6 +1,6 @@
 // Writes a text and its colours in a view: digits, or the text in a terminal's colours.
 ghost use Rattle.std.specs.Prelude.{◌≡◌, ◌%◌, ◌<◌, ◌++◌, IfOk, OnOk};
-ghost use Rattle.report.specs.Rendered.{hex_digit, digit_of, switch_to, switch, visible as visible_of, escape_sequence, opening as OpeningOf, piece, next_shown, closing as closing_of, rendered};
+ghost use Rattle.report.specs.Rendered.{hex_digit, digit_of, switch_to, switch, visible as visible_of, escape_sequence, opening as opening_of, piece, next_shown, closing as closing_of, rendered};
 
 use crate::view::View;
 use std::alloc::{AllocError, Global};
@@ -95,7 +95,7 @@ fn put_piece(out: &mut Vec<u8>, view: View, last: u8, byte: u8, class: u8) -> Re
 }
 
 fn put_opening(out: &mut Vec<u8>, view: View) -> Result<(), AllocError>
-    ensures { OnOk result (out.new.items ≡ out.old.items ++ OpeningOf view) }
+    ensures { OnOk result (out.new.items ≡ out.old.items ++ opening_of view) }
 {
     match view {
         View::Digits => out.extend_from_slice(&[]),

@@ -5,6 +5,7 @@ use slots::memory::Memory;
 
 pub mod calls;
 pub mod making;
+pub mod sizes;
 
 #[derive(Drop)]
 pub struct ChunkTree<'a, R> {

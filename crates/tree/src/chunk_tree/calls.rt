@@ -75,7 +75,7 @@ impl<R: Copy> ChunkTree<'_, R> {
         size(&self.memory, self.root).height
     }
 
-    // How many chunks lie before a place, how many bytes of the next one, and how long that one is.
+    // How many chunks lie before a place, and how many bytes of the next one.
     pub fn spot(&self, place: u32) -> Spot
         ensures is { result ≡ spot_in (chunks_now self.now) place }
         ensures few { result.chunk ≤ 4096 }

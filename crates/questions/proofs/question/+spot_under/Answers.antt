@@ -1,6 +1,6 @@
 use Rattle.std.proofs.Common.{sym, ap, ◌∙◌, arith}
 use Rattle.chunks.specs.Tree.{Tree}
-use Rattle.chunks.specs.Spot.{spot_in}
+use Rattle.chunks.specs.SizedSpot.{sized_spot_in}
 use Rattle.slots.specs.View.{chunks_of}
 use Rattle.slots.proofs.Joining.{height_held, node_higher}
 use Rattle.slots.proofs.Splitting.{sides, held_left, held_right}
@@ -31,13 +31,13 @@ returns-then-place-before g t c tree held =
     let v = sides c.in-Some.is held in
     let before = c.extent-before.ensures v.0 (c.child-left.ensures _ _ v.1.1.1.holds) v.1.1.1.holds.1.0 in
     let left = held_left v.1.1.1 _ (c.child-left.ensures _ _ v.1.1.1.holds) in
-    c.spot_under.ensures _ left ∙ spot_on_left v.1.1.1 _ before c.args.place c.if-place-before.true ∙ ap (λ (z : Tree). spot_in (chunks_of c.args.memory.now z) c.args.place) (sym v.1.1.0)
+    c.spot_under.ensures _ left ∙ spot_on_left v.1.1.1 _ before c.args.place c.if-place-before.true ∙ ap (λ (z : Tree). sized_spot_in (chunks_of c.args.memory.now z) c.args.place) (sym v.1.1.0)
 
 pub returns-then-inside-own : goal.returns-then-inside-own
 returns-then-inside-own g t c tree held =
     let v = sides c.in-Some.is held in
     let before = c.extent-before.ensures v.0 (c.child-left.ensures _ _ v.1.1.1.holds) v.1.1.1.holds.1.0 in
-    spot_in_own v.1.1.1 _ before c.args.place (omega arith) _ c.chunk_length-size.ensures (omega arith) ∙ ap (λ (z : Tree). spot_in (chunks_of c.args.memory.now z) c.args.place) (sym v.1.1.0)
+    spot_in_own v.1.1.1 _ before c.args.place (omega arith) _ c.chunk_length-size.ensures (omega arith) ∙ ap (λ (z : Tree). sized_spot_in (chunks_of c.args.memory.now z) c.args.place) (sym v.1.1.0)
 
 pub spot_under-rest-requires : goal.spot_under-rest-requires
 spot_under-rest-requires g t c κs within =
@@ -74,4 +74,4 @@ returns g t c tree held =
     let before = c.extent-before.ensures v.0 (c.child-left.ensures _ _ v.1.1.1.holds) v.1.1.1.holds.1.0 in
     let right = held_right v.1.1.1 _ (c.child.ensures _ _ v.1.1.1.holds) in
     spot_on_right v.1.1.1 _ before c.args.place (omega arith) _ c.chunk_length-size.ensures (omega arith) _ (c.spot_under-rest.ensures _ right)
-    ∙ ap (λ (z : Tree). spot_in (chunks_of c.args.memory.now z) c.args.place) (sym v.1.1.0)
+    ∙ ap (λ (z : Tree). sized_spot_in (chunks_of c.args.memory.now z) c.args.place) (sym v.1.1.0)
