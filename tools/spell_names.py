@@ -2,9 +2,10 @@
 """Spells the names that this repository declares in specs, proofs and clauses as the library spells its own.
 usage: tools/spell_names.py  at the top of the checkout: words joined by hyphens become snake case, and camel case behind a capital.
 
-Names of the library, and those that the checker makes for goals, keep their spelling: only a name declared here is respelled.
-Inputs, outputs and functions of src/ (which have no hyphens) keep theirs. It stops, with nothing written, where two names would
-fall together."""
+Only a name that a file of specs/ or proofs/ or a clause here declares is respelled. Names of the library, and those that the checker makes
+for goals, keep their spelling, unless one of them is the same word as a name declared here; then it has to be put back by hand (in
+the text that this was written for there is none). Inputs, outputs and functions of src/, which have no hyphens, keep theirs. It stops,
+with nothing written, where two names would fall together."""
 
 import os
 import re

@@ -1,5 +1,5 @@
-// Times the meter of walks beside a plain walk of the same bytes, and keystrokes on a document, when it is given the word `run`.
-// Without that word it writes nothing, so that a gate can run it.
+// Times the meter of walks beside a plain walk of the same bytes, and keystrokes and questions on a document, when it is given the
+// word `run`. Without that word it writes nothing, so that a gate can run it.
 
 #![tactic(auto)]
 
