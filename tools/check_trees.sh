@@ -7,18 +7,19 @@ said=$(mktemp)
 told=$(mktemp)
 trap 'rm -f "$said" "$told"' EXIT
 
-if ! rt try -- string-comment --tree --tree 64 <stdin >"$said" 2>"$told"; then
-  echo "trees: WRONG, the program failed"
-  tail -n 20 "$told"
+wrong() {
+  echo "trees: WRONG, $1; what the program wrote:"
+  tail -n 20 "$said" "$told"
   exit 1
-fi
-cmp "$said" ../../tools/trees/stdout
+}
+
+rt try -- string-comment --tree --tree 64 <stdin >"$said" 2>"$told" || wrong "it failed"
+cmp "$said" ../../tools/trees/stdout || wrong "wanted what is in tools/trees/stdout"
 echo "trees: of 4096 and of 64 slots: as they must be"
 
-if rt try -- string-comment --tree 5 <stdin >"$said" 2>"$told"; then
-  echo "trees: WRONG, a text of six chunks has to be refused where there are five slots"
-  exit 1
+status=0
+rt try -- string-comment --tree 5 <stdin >"$said" 2>"$told" || status=$?
+if [ "$status" -ne 1 ] || [ -s "$said" ] || ! grep -qF "scene: the text needs more than 5 slots of 64 bytes each" "$told"; then
+  wrong "a text of six chunks has to be refused where there are five slots"
 fi
-grep -F "scene: the text needs more than 5 slots of 64 bytes each" "$told" || (tail -n 20 "$told" && exit 1)
-test ! -s "$said"
 echo "trees: of 5 slots: refused, as it must be"
