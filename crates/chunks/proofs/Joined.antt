@@ -38,7 +38,7 @@ start_grows cs n k =
 pub start_monotone : (cs : List (List ℕ)) (m n : ℕ) → m ≤ n → start cs m ≤ start cs n
 start_monotone cs m n h = let sum : m + (n - m) ≡ n = omega arith in subst (λ k. start cs m ≤ start cs k) sum (start_grows cs m (n - m))
 
--- What a spot says of a place within the text.
+-- What a sized spot says of a place within the text.
 pub record Spotted (cs : List (List ℕ)) (p : ℕ) (s : SizedSpot) : Type 0 where
   pub some_chunk : s.chunk < length cs
   pub begins : start cs s.chunk + s.inside ≡ p

@@ -36,7 +36,7 @@ pub fn chunk_length<R: Copy>(memory: &Memory<R>, i: u16) -> u8
     slots[i as usize].size
 }
 
-// Where a place lies among the chunks of a tree.
+// Where a place lies among the chunks of a tree, and how long the chunk is that has it.
 fn spot_under<R: Copy>(memory: &Memory<R>, link: Option<u16>, place: u32) -> SizedSpot
     requires { (t : Tree) × Held memory.now link t }
     ensures { (t : Tree) → Held memory.now link t → result ≡ sized_spot_in (chunks_of memory.now t) place }

@@ -5,7 +5,7 @@ use slots::memory::Memory;
 
 pub mod calls;
 pub mod making;
-pub mod sizes;
+pub mod sized_spot;
 
 #[derive(Drop)]
 pub struct ChunkTree<'a, R> {
