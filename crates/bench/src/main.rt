@@ -5,7 +5,6 @@
 
 use grammar::Words;
 use layers::{Comment, Quoted};
-use measure::bounded_reading::Bounded;
 use measure::walk_reading::Passage;
 use meter::Meter;
 use std::time::Instant;
@@ -43,10 +42,10 @@ fn text_of(round: u32) -> [u8; 64] {
 }
 
 // The end of a walk in a reading, so that the reading is used.
-fn end_of(reading: &Bounded<Passage>, round: u32) -> u8 {
+fn end_of(reading: &Option<Passage>, round: u32) -> u8 {
     match reading {
-        Bounded::Within(p) => p.entries[round as usize % 18].end,
-        Bounded::Overlong => 0,
+        Some(p) => p.entries[round as usize % 18].end,
+        None => 0,
     }
 }
 

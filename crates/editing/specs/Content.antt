@@ -5,7 +5,6 @@ use Rattle.measure.specs.Measure.{Measure}
 use Rattle.measure.specs.Pair.{pair_measure}
 use Rattle.measure.specs.Place.{place_measure}
 use Rattle.measure.specs.Walk.{walk_measure}
-use Rattle.measure.specs.declared.bounded_reading.Bounded.{Bounded}
 use Rattle.measure.specs.declared.pair_reading.PairReading.{PairReading}
 use Rattle.measure.specs.declared.place_reading.Extent.{Extent}
 use Rattle.measure.specs.declared.walk_reading.Passage.{Passage}
@@ -16,7 +15,7 @@ use Rattle.tree.specs.declared.chunk_tree.ChunkTree.{ChunkTree}
 use Rattle.tree.specs.Public.{chunks_now, usable_of, lent_to}
 
 -- The document's meter: walks by its grammar, places, and whatever the host measures.
-abbrev pub document_measure : {X : Type 0} → Automaton → Measure X → Measure (PairReading (Bounded Passage) (PairReading (Bounded Extent) X))
+abbrev pub document_measure : {X : Type 0} → Automaton → Measure X → Measure (PairReading (Option Passage) (PairReading (Option Extent) X))
 document_measure a host = pair_measure (walk_measure a) (pair_measure place_measure host)
 
 abbrev pub text_in : {R : Type 0} → ChunkTree R → List ℕ

@@ -1,7 +1,6 @@
 // Texts cut at every place: the join of what the meters read of both parts is what they read of the whole.
 use grammar::Words;
 use layers::{Comment, Quoted};
-use measure::bounded_reading::Bounded;
 use measure::place_reading::Extent;
 use measure::walk_reading::{Entry, Passage};
 use meter::{Blank, Meter, Pair, Place};
@@ -61,8 +60,8 @@ fn cut_everywhere(rt: HostRuntime) {
 // What a walk of the pile from state 0 says of a text.
 fn from_start(text: &[u8]) -> Option<Entry> {
     match pile().measure(text) {
-        Bounded::Within(p) => Some(p.entries[0]),
-        Bounded::Overlong => None,
+        Some(p) => Some(p.entries[0]),
+        None => None,
     }
 }
 
@@ -74,8 +73,8 @@ fn entry(end: u8, closings: u32, openings: u32) -> Option<Entry> {
     })
 }
 
-fn place(length: u32, lines: u32, units: u32) -> Bounded<Extent> {
-    Bounded::Within(Extent {
+fn place(length: u32, lines: u32, units: u32) -> Option<Extent> {
+    Some(Extent {
         length,
         lines,
         units,
@@ -97,13 +96,13 @@ fn known_readings(rt: HostRuntime) {
 fn overlong_stays(rt: HostRuntime) {
     let byte = place(1, 0, 1);
     assert!(rt; Place.join(&place(262_143, 0, 0), &byte) == place(262_144, 0, 1));
-    assert!(rt; Place.join(&place(262_144, 0, 0), &byte) == Bounded::Overlong);
-    assert!(rt; Place.join(&place(u32::MAX, 0, 0), &byte) == Bounded::Overlong);
-    assert!(rt; Place.join(&byte, &Bounded::Overlong) == Bounded::Overlong);
-    assert!(rt; Place.join(&Bounded::Overlong, &byte) == Bounded::Overlong);
+    assert!(rt; Place.join(&place(262_144, 0, 0), &byte) == None);
+    assert!(rt; Place.join(&place(u32::MAX, 0, 0), &byte) == None);
+    assert!(rt; Place.join(&byte, &None) == None);
+    assert!(rt; Place.join(&None, &byte) == None);
     let read = pile().single(b'a');
-    assert!(rt; pile().join(&read, &Bounded::Overlong) == Bounded::Overlong);
-    assert!(rt; pile().join(&Bounded::Overlong, &read) == Bounded::Overlong);
+    assert!(rt; pile().join(&read, &None) == None);
+    assert!(rt; pile().join(&None, &read) == None);
 }
 
 // Values that are no text's reading are joined too: a state without an entry stays, a count stops at its greatest.
@@ -114,13 +113,13 @@ fn strange_values_join(rt: HostRuntime) {
         closings: u32::MAX,
         openings: u32::MAX,
     };
-    let left = Bounded::Within(Passage {
+    let left = Some(Passage {
         length: 1,
         entries: [strange; 64],
     });
     match pile().join(&left, &pile().single(b')')) {
-        Bounded::Within(p) => assert!(rt; p.entries[0] == strange && p.length == 2),
-        Bounded::Overlong => assert!(rt; false),
+        Some(p) => assert!(rt; p.entries[0] == strange && p.length == 2),
+        None => assert!(rt; false),
     }
     assert!(rt;
         Place.join(&place(1, u32::MAX, u32::MAX), &place(1, 0, 9)) == place(2, u32::MAX, u32::MAX)

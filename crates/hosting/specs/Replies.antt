@@ -2,7 +2,6 @@
 use Rattle.std.specs.Prelude.{◌≡◌, ℕ, ◌-◌, ◌%◌, min, List, map, length, take, Some, None, Option, unwrap_or}
 use Rattle.automaton.specs.Automaton.{Automaton}
 use Rattle.measure.specs.Measure.{Measure}
-use Rattle.measure.specs.declared.bounded_reading.Bounded.{Bounded}
 use Rattle.measure.specs.declared.pair_reading.PairReading.{PairReading}
 use Rattle.measure.specs.declared.place_reading.Extent.{Extent}
 use Rattle.measure.specs.declared.walk_reading.Passage.{Passage}
@@ -66,7 +65,7 @@ digits cells = map (λ cell. lower_digit (cell % 16)) cells
 
 -- A reading of the document's meter with a host's readings.
 abbrev pub Readings : Type 0 → Type 0
-Readings X = PairReading (Bounded Passage) (PairReading (Bounded Extent) X)
+Readings X = PairReading (Option Passage) (PairReading (Option Extent) X)
 
 -- What is written of an answer: of TEXT and COLOURS, what is at the front of the buffer; of RANGE, what the lent reading tells.
 abbrev pub written_of : {X : Type 0} → Call → Answer → List ℕ → Readings X → List ℕ

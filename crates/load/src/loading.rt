@@ -3,7 +3,6 @@ ghost use Rattle.load.specs.Loading.{Answers, roomy};
 
 use crate::loaded::Loaded;
 use grammar::Grammar;
-use measure::bounded_reading::Bounded;
 use measure::pair_reading::PairReading;
 use measure::place_reading::Extent;
 use measure::walk_reading::Passage;
@@ -14,7 +13,7 @@ use tree::ChunkTree;
 use walks::{DocumentMeter, Walk};
 
 // What the document's meter reads, with a host that measures nothing.
-pub type Reading = PairReading<Bounded<Passage>, PairReading<Bounded<Extent>, ()>>;
+pub type Reading = PairReading<Option<Passage>, PairReading<Option<Extent>, ()>>;
 
 // How many bytes are put in at a time: 16 whole chunks.
 const PIECE: usize = 1024;

@@ -5,16 +5,15 @@ ghost use Rattle.load.specs.Loading.{Answers, usual};
 use crate::loaded::Loaded;
 use crate::loading::{Reading, load};
 use grammar::Grammar;
-use measure::bounded_reading::Bounded;
 use measure::pair_reading::PairReading;
 use slots::slot::{Extent, Node, Slot};
 use std::alloc::{AllocError, Global};
 
 // What a reading is before anything was read.
 pub const UNREAD: Reading = PairReading {
-    first: Bounded::Overlong,
+    first: None,
     second: PairReading {
-        first: Bounded::Overlong,
+        first: None,
         second: (),
     },
 };

@@ -7,7 +7,6 @@ use Rattle.measure.specs.Measure.{reading}
 use Rattle.measure.specs.Place.{ends_line, width, line_ends, units, extent, place_measure}
 use Rattle.measure.proofs.Bounded.{bounded_within, bounded_over}
 use Rattle.measure.proofs.Place.{place_is}
-use Rattle.measure.specs.declared.bounded_reading.Bounded.TheVariants.{Within}
 use Rattle.measure.specs.declared.place_reading.Extent.{Extent}
 use Rattle.positions.proofs.Lines.{one_end, no_end, units_first, units_later}
 use Rattle.search.specs.Forwards.{then, through}
@@ -85,7 +84,7 @@ module _ (column : ℕ) where
       (cases_Bool (ends_line b))
 
 -- A reading that is not overlong tells the line ends, the units and the length of its text.
-pub told : (text : List ℕ) (x : Extent) → reading place_measure text ≡ Within x → (x.lines ≡ line_ends text) × (x.units ≡ units text) × (x.length ≡ length text)
+pub told : (text : List ℕ) (x : Extent) → reading place_measure text ≡ Some x → (x.lines ≡ line_ends text) × (x.units ≡ units text) × (x.length ≡ length text)
 told text x e =
     let is = place_is text in
     ⊎_elim (λ h. let over = bounded_over extent text h in let z : ◌≡◌ {A = ℕ} 0 1 = cc in absurd (omega arith))

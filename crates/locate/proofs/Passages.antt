@@ -1,5 +1,5 @@
 -- What a passage tells of its text, from every number that a state may have.
-use Rattle.std.proofs.Common.{◌≡◌, ℕ, ◌<◌, ◌≤◌, List, length, sym, ap, ◌∙◌, ⊎_elim, arith}
+use Rattle.std.proofs.Common.{◌≡◌, ℕ, ◌<◌, ◌≤◌, List, length, sym, ap, ◌∙◌, ⊎_elim, arith, Some}
 use Rattle.std.proofs.lemmas.List.{get_or_past}
 use Rattle.std.proofs.lemmas.Bool.{cases_lt}
 use Rattle.automaton.specs.Automaton.{Automaton, Lawful}
@@ -9,11 +9,10 @@ use Rattle.measure.specs.Walk.{entry, passage, still, entry_at, walk_measure}
 use Rattle.measure.proofs.Bounded.{bounded_within, bounded_over}
 use Rattle.measure.proofs.Rows.{length_rows, get_d_rows}
 use Rattle.measure.proofs.Walk.{walk_is, outside_entry}
-use Rattle.measure.specs.declared.bounded_reading.Bounded.TheVariants.{Within}
 use Rattle.measure.specs.declared.walk_reading.Passage.{Passage}
 
 module _ (a : Automaton) (lawful : Lawful a) (text : List ℕ) where
-  pub passage_told : (p : Passage) → reading (walk_measure a) text ≡ Within p → (length text ≤ longest) × (p ≡ passage a text)
+  pub passage_told : (p : Passage) → reading (walk_measure a) text ≡ Some p → (length text ≤ longest) × (p ≡ passage a text)
   passage_told p e =
       let told = walk_is a lawful text in
       ⊎_elim (λ h. let over = bounded_over (passage a) text h in let z : ◌≡◌ {A = ℕ} 0 1 = cc in absurd (omega arith))
@@ -21,7 +20,7 @@ module _ (a : Automaton) (lawful : Lawful a) (text : List ℕ) where
       (cases_lt longest (length text))
 
   -- A reading that is no passage is that of an overlong text.
-  pub overlong_told : ((p : Passage) → reading (walk_measure a) text ≡ Within p → ⊥) → longest < length text
+  pub overlong_told : ((p : Passage) → reading (walk_measure a) text ≡ Some p → ⊥) → longest < length text
   overlong_told none = ⊎_elim (λ h. h) (λ h. absurd (none (passage a text) (walk_is a lawful text ∙ bounded_within (passage a) text h))) (cases_lt longest (length text))
 
   entry_said : (s : ℕ) → entry_at (passage a text).entries s ≡ entry a s text

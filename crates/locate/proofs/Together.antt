@@ -7,7 +7,6 @@ use Rattle.measure.specs.Measure.{reading}
 use Rattle.measure.specs.Walk.{walk_measure}
 use Rattle.measure.proofs.Rows.{read_entry}
 use Rattle.measure.proofs.Walk.{entries_tell}
-use Rattle.measure.specs.declared.bounded_reading.Bounded.TheVariants.{Within}
 use Rattle.measure.specs.declared.walk_reading.Entry.{Entry}
 use Rattle.measure.specs.declared.walk_reading.Passage.{Passage}
 use Rattle.search.specs.Forwards.{then, through}
@@ -20,7 +19,7 @@ stays_apart a s t (b ∷ text) ne =
     ∙ stays_apart a (a.step s b) (a.step t b) text ne
 
 -- Where a walk ends, as one entry of a reading tells.
-pub end_told : (a : Automaton) → Lawful a → (text : List ℕ) (p : Passage) → reading (walk_measure a) text ≡ Within p → (s : ℕ) → s < 64 → (get_or p.entries s (record { end = 0; closings = 0; openings = 0 })).end ≡ walk a s text
+pub end_told : (a : Automaton) → Lawful a → (text : List ℕ) (p : Passage) → reading (walk_measure a) text ≡ Some p → (s : ℕ) → s < 64 → (get_or p.entries s (record { end = 0; closings = 0; openings = 0 })).end ≡ walk a s text
 end_told a lawful text p is s low =
     let told = entries_tell a lawful text p is in
     ap (λ (x : Entry). x.end) (read_entry p.entries s told.1 low) ∙ (told.2 s low).ends

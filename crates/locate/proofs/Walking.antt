@@ -7,7 +7,6 @@ use Rattle.automaton.specs.Walk.{walk}
 use Rattle.measure.specs.Measure.{reading}
 use Rattle.measure.specs.Walk.{walk_measure, entry_at}
 use Rattle.measure.proofs.Walk.{entries_tell}
-use Rattle.measure.specs.declared.bounded_reading.Bounded.TheVariants.{Within}
 use Rattle.measure.specs.declared.walk_reading.Passage.{Passage}
 use Rattle.search.specs.Forwards.{then, through, stop, stop_or}
 use Rattle.locate.specs.StateBefore.{walked, walk_on, WalkComesToPlace}
@@ -32,7 +31,7 @@ walks_through a s (suc n) (b ∷ text) h =
     let fewer : n - length text ≡ suc n - suc (length text) = omega arith in
     ap (λ o. then o (λ x. through (walk_on a) x text)) (on_step a s n b) ∙ walks_through a (a.step s b) n text (omega arith) ∙ ap (λ k. Some (walked k (walk a (a.step s b) text))) fewer
 
-pub walked_over : (a : Automaton) → Lawful a → (at : Walked) (text : List ℕ) (p : Passage) → reading (walk_measure a) text ≡ Within p → p.length ≤ at.left → at.state < 64 → through (walk_on a) at text ≡ Some (walked (at.left - p.length) (entry_at p.entries at.state).end)
+pub walked_over : (a : Automaton) → Lawful a → (at : Walked) (text : List ℕ) (p : Passage) → reading (walk_measure a) text ≡ Some p → p.length ≤ at.left → at.state < 64 → through (walk_on a) at text ≡ Some (walked (at.left - p.length) (entry_at p.entries at.state).end)
 walked_over a lawful at text p e short low =
     let told = entries_tell a lawful text p e in
     let long = told.0 in

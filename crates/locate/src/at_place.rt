@@ -4,7 +4,6 @@ ghost use Rattle.measure.specs.Place.{place_measure};
 ghost use Rattle.locate.specs.AtPlace.{place_on};
 
 use crate::placed::Placed;
-use measure::bounded_reading::Bounded;
 use measure::place_reading::Extent;
 use meter::{ends_line, width};
 use seek::forward::Forward;
@@ -13,7 +12,7 @@ use seek::forward::Forward;
 pub struct AtPlace;
 
 impl Forward for AtPlace {
-    type Reading = Bounded<Extent>;
+    type Reading = Option<Extent>;
 
     type At = Placed;
 
@@ -41,8 +40,8 @@ impl Forward for AtPlace {
     }
 
     // A text that ends before the place is counted by one look at its extent.
-    fn pass(&self, at: Placed, reading: &Bounded<Extent>) -> Option<Placed> {
-        let Bounded::Within(extent) = reading else {
+    fn pass(&self, at: Placed, reading: &Option<Extent>) -> Option<Placed> {
+        let Some(extent) = reading else {
             return None;
         };
         if extent.length as usize > at.left {

@@ -4,7 +4,6 @@ ghost use Rattle.measure.specs.Place.{place_measure};
 ghost use Rattle.locate.specs.InLine.{column_on};
 
 use crate::lined::Lined;
-use measure::bounded_reading::Bounded;
 use measure::place_reading::Extent;
 use meter::{ends_line, width};
 use seek::forward::Forward;
@@ -15,7 +14,7 @@ pub struct InLine {
 }
 
 impl Forward for InLine {
-    type Reading = Bounded<Extent>;
+    type Reading = Option<Extent>;
 
     type At = Lined;
 
@@ -45,8 +44,8 @@ impl Forward for InLine {
     }
 
     // A text that ends before the column's place is passed over by one look at its extent.
-    fn pass(&self, at: Lined, reading: &Bounded<Extent>) -> Option<Lined> {
-        let Bounded::Within(extent) = reading else {
+    fn pass(&self, at: Lined, reading: &Option<Extent>) -> Option<Lined> {
+        let Some(extent) = reading else {
             return None;
         };
         let start = if extent.lines == 0 { at.units } else { 0 };

@@ -5,7 +5,6 @@ ghost use Rattle.locate.specs.Meeting.{meet_on};
 
 use crate::two_states::TwoStates;
 use grammar::Grammar;
-use measure::bounded_reading::Bounded;
 use measure::walk_reading::Passage;
 use seek::forward::Forward;
 
@@ -15,7 +14,7 @@ pub struct Meeting<'g, G> {
 }
 
 impl<'g, G: Grammar> Forward for Meeting<'g, G> {
-    type Reading = Bounded<Passage>;
+    type Reading = Option<Passage>;
 
     type At = TwoStates;
 
@@ -34,8 +33,8 @@ impl<'g, G: Grammar> Forward for Meeting<'g, G> {
     }
 
     // Walks that have met stay together, so where the ends differ they have not met in between.
-    fn pass(&self, at: TwoStates, reading: &Bounded<Passage>) -> Option<TwoStates> {
-        let Bounded::Within(passage) = reading else {
+    fn pass(&self, at: TwoStates, reading: &Option<Passage>) -> Option<TwoStates> {
+        let Some(passage) = reading else {
             return None;
         };
         if at.old >= 64 || at.new >= 64 {

@@ -6,7 +6,6 @@ ghost use Rattle.locate.specs.PartnerAhead.{ahead_on};
 use crate::depth::{depth_ahead, entry_at, over_ahead};
 use crate::nested::Nested;
 use grammar::Grammar;
-use measure::bounded_reading::Bounded;
 use measure::walk_reading::Passage;
 use seek::forward::Forward;
 
@@ -16,7 +15,7 @@ pub struct PartnerAhead<'g, G> {
 }
 
 impl<'g, G: Grammar> Forward for PartnerAhead<'g, G> {
-    type Reading = Bounded<Passage>;
+    type Reading = Option<Passage>;
 
     type At = Nested;
 
@@ -33,8 +32,8 @@ impl<'g, G: Grammar> Forward for PartnerAhead<'g, G> {
     }
 
     // A text whose unmatched closings are fewer than the openings so far is run through.
-    fn pass(&self, at: Nested, reading: &Bounded<Passage>) -> Option<Nested> {
-        let Bounded::Within(passage) = reading else {
+    fn pass(&self, at: Nested, reading: &Option<Passage>) -> Option<Nested> {
+        let Some(passage) = reading else {
             return None;
         };
         let entry = entry_at(&passage.entries, at.state);

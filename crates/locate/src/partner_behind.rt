@@ -6,7 +6,6 @@ ghost use Rattle.locate.specs.PartnerBehind.{trace_on, behind_on};
 use crate::depth::{depth_behind, entry_at, over_behind};
 use crate::traced::Traced;
 use grammar::Grammar;
-use measure::bounded_reading::Bounded;
 use measure::walk_reading::Passage;
 use meter::limit::LONGEST;
 use seek::backward::Backward;
@@ -17,7 +16,7 @@ pub struct PartnerBehind<'g, G> {
 }
 
 impl<'g, G: Grammar> Backward for PartnerBehind<'g, G> {
-    type Reading = Bounded<Passage>;
+    type Reading = Option<Passage>;
 
     type Fore = Option<Traced>;
 
@@ -40,9 +39,9 @@ impl<'g, G: Grammar> Backward for PartnerBehind<'g, G> {
         })
     }
 
-    fn ahead_over(&self, state: Option<Traced>, reading: &Bounded<Passage>) -> Option<Traced> {
+    fn ahead_over(&self, state: Option<Traced>, reading: &Option<Passage>) -> Option<Traced> {
         let from = state?;
-        let Bounded::Within(passage) = reading else {
+        let Some(passage) = reading else {
             return None;
         };
         if passage.length > LONGEST.saturating_sub(from.read) {
@@ -60,9 +59,9 @@ impl<'g, G: Grammar> Backward for PartnerBehind<'g, G> {
     }
 
     // A text whose unmatched openings are fewer than the closings so far is run through.
-    fn pass_back(&self, state: Option<Traced>, reading: &Bounded<Passage>, at: u32) -> Option<u32> {
+    fn pass_back(&self, state: Option<Traced>, reading: &Option<Passage>, at: u32) -> Option<u32> {
         let from = state?;
-        let Bounded::Within(passage) = reading else {
+        let Some(passage) = reading else {
             return None;
         };
         if passage.length > LONGEST.saturating_sub(from.read) {

@@ -5,7 +5,6 @@ ghost use Rattle.locate.specs.StateBefore.{walk_on};
 
 use crate::walked::Walked;
 use grammar::Grammar;
-use measure::bounded_reading::Bounded;
 use measure::walk_reading::Passage;
 use seek::forward::Forward;
 
@@ -15,7 +14,7 @@ pub struct StateBefore<G> {
 }
 
 impl<G: Grammar> Forward for StateBefore<G> {
-    type Reading = Bounded<Passage>;
+    type Reading = Option<Passage>;
 
     type At = Walked;
 
@@ -34,9 +33,9 @@ impl<G: Grammar> Forward for StateBefore<G> {
     }
 
     // A text that ends before the place is walked through by one look at its entry.
-    fn pass(&self, at: Walked, reading: &Bounded<Passage>) -> Option<Walked> {
+    fn pass(&self, at: Walked, reading: &Option<Passage>) -> Option<Walked> {
         match reading {
-            Bounded::Within(passage) if passage.length as usize <= at.left && at.state < 64 => {
+            Some(passage) if passage.length as usize <= at.left && at.state < 64 => {
                 Some(Walked {
                     left: at.left - passage.length as usize,
                     state: passage.entries[at.state as usize].end,

@@ -1,11 +1,10 @@
 -- The meter of places is lawful, and its reading of a text is what `place_reading` says.
-use Rattle.std.proofs.Common.{◌≡◌, ℕ, ◌+◌, ◌*◌, ◌≤◌, cond, eqb, List, [], ◌∷◌, ◌++◌, length, sym, refl, ap, ◌∙◌, arith}
+use Rattle.std.proofs.Common.{◌≡◌, ℕ, ◌+◌, ◌*◌, ◌≤◌, cond, eqb, List, [], ◌∷◌, ◌++◌, length, sym, refl, ap, ◌∙◌, arith, Some}
 use Rattle.std.proofs.lemmas.List.{length-append}
 use Rattle.std.proofs.lemmas.Bool.Decides.{nat_tests}
 use Rattle.measure.specs.Measure.{reading, Lawful}
 use Rattle.measure.specs.Bounded.{longest}
 use Rattle.measure.specs.Place.{line_ends, units, extent, place_reading, join_extents, place_measure}
-use Rattle.measure.specs.declared.bounded_reading.Bounded.TheVariants.{Within}
 use Rattle.measure.specs.declared.place_reading.Extent.{Extent}
 use Rattle.measure.proofs.Bounded.{join_said}
 use Rattle.measure.proofs.Measure.{reading_whole, lawful_whole}
@@ -48,7 +47,7 @@ join_texts xs ys h =
     same_extent (sym l) (omega arith) (grind (arith, nat_tests))
 
 one_byte : (b : ℕ) → place_measure.single b ≡ place_reading (b ∷ [])
-one_byte b = ap Within (same_extent refl (omega arith) (grind (arith, nat_tests)))
+one_byte b = ap Some (same_extent refl (omega arith) (grind (arith, nat_tests)))
 
 join_places : (xs ys : List ℕ) → place_measure.join (place_reading xs) (place_reading ys) ≡ place_reading (xs ++ ys)
 join_places = join_said extent (λ p. p.length) join_extents (λ xs. refl) join_texts

@@ -1,5 +1,5 @@
 -- The meter of walks is lawful, its reading of a text is what `walk_reading` says, and each entry tells of the text.
-use Rattle.std.proofs.Common.{◌≡◌, ℕ, ◌+◌, ◌-◌, ◌<◌, ◌≤◌, min, cond, ltb, List, [], ◌∷◌, ◌++◌, length, sym, refl, ap, ◌∙◌, subst, ⊎_elim, arith}
+use Rattle.std.proofs.Common.{◌≡◌, ℕ, ◌+◌, ◌-◌, ◌<◌, ◌≤◌, min, cond, ltb, List, [], ◌∷◌, ◌++◌, length, sym, refl, ap, ◌∙◌, subst, ⊎_elim, arith, Some}
 use Rattle.std.proofs.lemmas.List.{length-append}
 use Rattle.std.proofs.lemmas.Bool.{cases_lt, cond-true, cond-false, lt-ltb, le-ltb}
 use Rattle.automaton.specs.Automaton.{Automaton, Lawful as LawfulGrammar}
@@ -10,7 +10,6 @@ use Rattle.measure.specs.Measure.{reading, Lawful}
 use Rattle.measure.specs.Bounded.{longest, capped}
 use Rattle.measure.specs.Unmatched.{unmatched_closings, unmatched_openings}
 use Rattle.measure.specs.Walk.{entry, passage, walk_reading, still, over_byte, join_entries, entry_at, onward, through, join_passages, walk_measure, Tells, EntriesTell}
-use Rattle.measure.specs.declared.bounded_reading.Bounded.TheVariants.{Within}
 use Rattle.measure.specs.declared.walk_reading.Entry.{Entry}
 use Rattle.measure.specs.declared.walk_reading.Passage.{Passage}
 use Rattle.measure.proofs.Measure.{reading_whole, lawful_whole}
@@ -59,7 +58,7 @@ module _ (a : Automaton) where
   one_entry b s = same_entry refl (omega (arith, one_role (role a s b))) (omega (arith, one_role (role a s b)))
 
   pub one_byte : (b : ℕ) → (walk_measure a).single b ≡ walk_reading a (b ∷ [])
-  one_byte b = ap (λ l. Within (record { length = 1; entries = l })) (same_rows (over_byte a b) (λ s. entry a s (b ∷ [])) (λ s h. one_entry b s))
+  one_byte b = ap (λ l. Some (record { length = 1; entries = l })) (same_rows (over_byte a b) (λ s. entry a s (b ∷ [])) (λ s h. one_entry b s))
 
   no_byte : (walk_measure a).empty ≡ walk_reading a []
   no_byte = refl

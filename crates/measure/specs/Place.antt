@@ -1,10 +1,8 @@
 -- The meter of places: the bytes of a text, its line ends, and the units of its last line.
 -- The place behind a text stands on the line that `line_ends` counts, at the column that `units` counts.
-use Rattle.std.specs.Prelude.{◌≡◌, ℕ, ◌+◌, Bool, cond, ◌&&◌, List, [], ◌∷◌, length, ◌==◌, nat_le}
+use Rattle.std.specs.Prelude.{◌≡◌, ℕ, ◌+◌, Bool, cond, ◌&&◌, List, [], ◌∷◌, length, ◌==◌, nat_le, Option, Some}
 use Rattle.measure.specs.Measure.{Measure, reading}
 use Rattle.measure.specs.Bounded.{bounded, join_bounded, capped}
-use Rattle.measure.specs.declared.bounded_reading.Bounded.{Bounded}
-use Rattle.measure.specs.declared.bounded_reading.Bounded.TheVariants.{Within}
 use Rattle.measure.specs.declared.place_reading.Extent.{Extent}
 
 -- The byte that ends a line. No other definition knows it.
@@ -30,7 +28,7 @@ units (b ∷ bs) = cond (line_ends (b ∷ bs) == 0) (width b) 0 + units bs
 abbrev pub extent : List ℕ → Extent
 extent text = record { length = length text; lines = line_ends text; units = units text }
 
-abbrev pub place_reading : List ℕ → Bounded Extent
+abbrev pub place_reading : List ℕ → Option Extent
 place_reading = bounded extent
 
 -- One behind the other: a line end on the right cuts off the units of the left.
@@ -41,10 +39,10 @@ join_extents p q = record {
   units = cond (q.lines == 0) (capped (p.units + q.units)) q.units;
 }
 
-abbrev pub place_measure : Measure (Bounded Extent)
+abbrev pub place_measure : Measure (Option Extent)
 place_measure = record {
-  empty = Within (record { length = 0; lines = 0; units = 0 });
-  single = λ b. Within (record { length = 1; lines = cond (ends_line b) 1 0; units = width b });
+  empty = Some (record { length = 0; lines = 0; units = 0 });
+  single = λ b. Some (record { length = 1; lines = cond (ends_line b) 1 0; units = width b });
   join = join_bounded (λ p. p.length) join_extents;
 }
 

@@ -1,6 +1,6 @@
 -- The meter of walks: from each state, where a walk through the text ends and which brackets it leaves unmatched.
 -- It measures for a grammar, whose meaning is the automaton a.
-use Rattle.std.specs.Prelude.{◌≡◌, ℕ, ◌+◌, ◌-◌, ◌<◌, ◌≤◌, min, cond, List, map, length, nat_lt, slice_index_or}
+use Rattle.std.specs.Prelude.{◌≡◌, ℕ, ◌+◌, ◌-◌, ◌<◌, ◌≤◌, min, cond, List, map, length, nat_lt, slice_index_or, Option, Some}
 use Rattle.std.specs.List.{range_with_len}
 use Rattle.automaton.specs.Automaton.{Automaton}
 use Rattle.automaton.specs.Bracket.{role}
@@ -8,8 +8,6 @@ use Rattle.automaton.specs.Walk.{walk}
 use Rattle.measure.specs.Measure.{Measure, reading}
 use Rattle.measure.specs.Bounded.{bounded, join_bounded, capped}
 use Rattle.measure.specs.Unmatched.{opens, closes, unmatched_closings, unmatched_openings, Unmatched}
-use Rattle.measure.specs.declared.bounded_reading.Bounded.{Bounded}
-use Rattle.measure.specs.declared.bounded_reading.Bounded.TheVariants.{Within}
 use Rattle.measure.specs.declared.walk_reading.Entry.{Entry}
 use Rattle.measure.specs.declared.walk_reading.Passage.{Passage}
 
@@ -25,7 +23,7 @@ rows f = map f (range_with_len 0 64)
 abbrev pub passage : Automaton → List ℕ → Passage
 passage a text = record { length = length text; entries = rows (λ s. entry a s text) }
 
-abbrev pub walk_reading : Automaton → List ℕ → Bounded Passage
+abbrev pub walk_reading : Automaton → List ℕ → Option Passage
 walk_reading a = bounded (passage a)
 
 -- A walk through nothing.
@@ -59,10 +57,10 @@ through n left right s = cond (nat_lt s n) (onward left right s) (entry_at left 
 abbrev pub join_passages : ℕ → Passage → Passage → Passage
 join_passages n p q = record { length = p.length + q.length; entries = rows (through n p.entries q.entries) }
 
-abbrev pub walk_measure : Automaton → Measure (Bounded Passage)
+abbrev pub walk_measure : Automaton → Measure (Option Passage)
 walk_measure a = record {
-  empty = Within (record { length = 0; entries = rows still });
-  single = λ b. Within (record { length = 1; entries = rows (over_byte a b) });
+  empty = Some (record { length = 0; entries = rows still });
+  single = λ b. Some (record { length = 1; entries = rows (over_byte a b) });
   join = join_bounded (λ p. p.length) (join_passages a.count);
 }
 
@@ -81,4 +79,4 @@ pub record Tells (a : Automaton) (text : List ℕ) (s : ℕ) (e : Entry) : Type 
 
 -- Every passage that is a text's reading tells of that text, from each state.
 abbrev pub EntriesTell : Automaton → Type 0
-EntriesTell a = (text : List ℕ) (p : Passage) → reading (walk_measure a) text ≡ Within p → (p.length ≡ length text) × (length p.entries ≡ 64) × ((s : ℕ) → s < 64 → Tells a text s (entry_at p.entries s))
+EntriesTell a = (text : List ℕ) (p : Passage) → reading (walk_measure a) text ≡ Some p → (p.length ≡ length text) × (length p.entries ≡ 64) × ((s : ℕ) → s < 64 → Tells a text s (entry_at p.entries s))

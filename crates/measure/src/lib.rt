@@ -3,7 +3,6 @@
 
 #![tactic(auto)]
 
-pub mod bounded_reading;
 pub mod pair_reading;
 pub mod place_reading;
 pub mod walk_reading;

@@ -5,7 +5,6 @@ ghost use Rattle.measure.proofs.Place.{place_lawful};
 
 use crate::interface::Meter;
 use crate::limit::length_within;
-use measure::bounded_reading::Bounded;
 use measure::place_reading::Extent;
 
 #[derive(Clone, Copy)]
@@ -47,35 +46,31 @@ fn join_extents(left: &Extent, right: &Extent, length: u32) -> Extent
 }
 
 impl Meter for Place {
-    type Reading = Bounded<Extent>;
+    type Reading = Option<Extent>;
 
     ghost scale = { λ _. place_measure };
 
     ghost lawful = { λ _. place_lawful };
 
-    fn empty(&self) -> Bounded<Extent> {
-        Bounded::Within(Extent {
+    fn empty(&self) -> Option<Extent> {
+        Some(Extent {
             length: 0,
             lines: 0,
             units: 0,
         })
     }
 
-    fn single(&self, byte: u8) -> Bounded<Extent> {
-        Bounded::Within(Extent {
+    fn single(&self, byte: u8) -> Option<Extent> {
+        Some(Extent {
             length: 1,
             lines: if ends_line(byte) { 1 } else { 0 },
             units: width(byte),
         })
     }
 
-    fn join(&self, left: &Bounded<Extent>, right: &Bounded<Extent>) -> Bounded<Extent> {
-        match (left, right) {
-            (Bounded::Within(p), Bounded::Within(q)) => match length_within(p.length, q.length) {
-                Some(length) => Bounded::Within(join_extents(p, q, length)),
-                None => Bounded::Overlong,
-            },
-            _ => Bounded::Overlong,
-        }
+    fn join(&self, left: &Option<Extent>, right: &Option<Extent>) -> Option<Extent> {
+        let (left, right) = (left.as_ref()?, right.as_ref()?);
+        let length = length_within(left.length, right.length)?;
+        Some(join_extents(left, right, length))
     }
 }

@@ -12,7 +12,6 @@ use Rattle.measure.proofs.Pair.{pair_reading}
 use Rattle.measure.proofs.Place.{place_is}
 use Rattle.measure.proofs.Rows.{get_d_rows}
 use Rattle.measure.proofs.Walk.{walk_is}
-use Rattle.measure.specs.declared.bounded_reading.Bounded.TheVariants.{Within}
 use Rattle.measure.specs.declared.pair_reading.PairReading.{PairReading}
 use Rattle.measure.specs.declared.walk_reading.Entry.{Entry}
 use Rattle.report.specs.Summary.{summary, summarized}
@@ -27,7 +26,7 @@ module _ (a : Automaton) (text : List ℕ) where
   within : length text ≤ longest → summarized (walk_reading a text) (place_reading text) ≡ summary a text
   within h =
       ap (λ w. summarized w (place_reading text)) (bounded_within (passage a) text h)
-      ∙ ap (summarized (Within (passage a text))) (bounded_within extent text h)
+      ∙ ap (summarized (Some (passage a text))) (bounded_within extent text h)
       ∙ ap with_start (get_d_rows (λ s. entry a s text) 0 (still 0) (omega arith))
       ∙ sym (cond-true (leb (length text) longest) (with_start (entry a 0 text)) None (le-leb (length text) longest h))
 

@@ -6,8 +6,6 @@ use Rattle.measure.specs.Bounded.{longest}
 use Rattle.measure.specs.Place.{line_ends, units}
 use Rattle.measure.specs.Unmatched.{unmatched_closings, unmatched_openings}
 use Rattle.measure.specs.Walk.{entry_at}
-use Rattle.measure.specs.declared.bounded_reading.Bounded.{Bounded}
-use Rattle.measure.specs.declared.bounded_reading.Bounded.TheVariants.{Within, Overlong}
 use Rattle.measure.specs.declared.place_reading.Extent.{Extent}
 use Rattle.measure.specs.declared.walk_reading.Passage.{Passage}
 use Rattle.report.specs.declared.summary.Summary.{Summary}
@@ -27,10 +25,10 @@ summary a text =
     None
 
 -- The same from the readings of the two meters: the walk begun in state 0, and the place behind the text.
-abbrev pub summarized : Bounded Passage → Bounded Extent → Option Summary
-summarized Overlong place = None
-summarized (Within p) Overlong = None
-summarized (Within p) (Within e) =
+abbrev pub summarized : Option Passage → Option Extent → Option Summary
+summarized None place = None
+summarized (Some p) None = None
+summarized (Some p) (Some e) =
     Some (record {
       length = e.length;
       lines = e.lines;

@@ -4,7 +4,6 @@ ghost use Rattle.report.specs.Summary.{summary as text_summary, summarized, summ
 
 use crate::summary::Summary;
 use grammar::Grammar;
-use measure::bounded_reading::Bounded;
 use measure::place_reading::Extent;
 use measure::walk_reading::Passage;
 use meter::{Blank, Meter, Pair, Place};
@@ -12,11 +11,11 @@ use std::alloc::{AllocError, Global};
 use walks::{DocumentMeter, Walk};
 
 // The readings of Walk and of Place as one summary, from state 0.
-pub fn summarize(walk: &Bounded<Passage>, place: &Bounded<Extent>) -> Option<Summary>
+pub fn summarize(walk: &Option<Passage>, place: &Option<Extent>) -> Option<Summary>
     ensures { result ≡ summarized walk.now place.now }
 {
     match (walk, place) {
-        (Bounded::Within(passage), Bounded::Within(extent)) => {
+        (Some(passage), Some(extent)) => {
             let start = passage.entries[0];
             Some(Summary {
                 length: extent.length,

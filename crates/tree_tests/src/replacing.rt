@@ -3,7 +3,6 @@ use crate::dice::Dice;
 use crate::plain::{Outcome, Plain};
 use grammar::Words;
 use layers::{Comment, Quoted};
-use measure::bounded_reading::Bounded;
 use measure::pair_reading::PairReading;
 use measure::place_reading::Extent;
 use measure::walk_reading::Passage;
@@ -14,13 +13,13 @@ use std::test::Fail;
 use tree::ChunkTree;
 use walks::Walk;
 
-type Reading = PairReading<Bounded<Passage>, Bounded<Extent>>;
+type Reading = PairReading<Option<Passage>, Option<Extent>>;
 
 const SLOTS: u16 = 32;
 
 const UNREAD: Reading = PairReading {
-    first: Bounded::Overlong,
-    second: Bounded::Overlong,
+    first: None,
+    second: None,
 };
 
 const UNUSED: Slot<Reading> = Slot {

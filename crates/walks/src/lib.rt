@@ -3,9 +3,9 @@
 
 #![tactic(auto)]
 
-pub mod document_meter;
+pub mod documents;
 pub mod promises;
 pub mod walk_meter;
 
-pub use document_meter::DocumentMeter;
+pub use documents::{DocumentMeter, Readings, document_meter};
 pub use walk_meter::Walk;

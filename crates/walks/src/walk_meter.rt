@@ -7,7 +7,6 @@ ghost use Rattle.measure.proofs.Walk.{walk_lawful};
 
 use automaton::role::Role;
 use grammar::Grammar;
-use measure::bounded_reading::Bounded;
 use measure::walk_reading::{Entry, Passage};
 use meter::Meter;
 use meter::limit::{LONGEST, length_within};
@@ -17,37 +16,15 @@ pub struct Walk<G> {
     pub grammar: G,
 }
 
-// A walk through nothing.
-fn still(state: u8) -> Entry
-    ensures { result ≡ still_in state }
-{
-    Entry {
-        end: state,
-        closings: 0,
-        openings: 0,
-    }
-}
-
 // Walks through nothing, from every state.
 fn still_rows() -> [Entry; 64]
     ensures { result ≡ rows still_in }
 {
-    let mut entries = [still(0); 64];
+    let mut entries = [Entry::still(0); 64];
     for s in 0..64 {
-        entries[s as usize] = still(s);
+        entries[s as usize] = Entry::still(s);
     }
     entries
-}
-
-// The entry of a state; a state without an entry stays.
-fn entry_at(entries: &[Entry; 64], state: u8) -> Entry
-    ensures { result ≡ entry_at entries.now state }
-{
-    if state < 64 {
-        entries[state as usize]
-    } else {
-        still(state)
-    }
 }
 
 // Two walks, the second from where the first ends.
@@ -62,15 +39,14 @@ fn join_entries(first: &Entry, second: &Entry) -> Entry
     }
 }
 
-// The walks of two tables, one behind the other, from the first `count` states.
-fn join_rows(count: u8, left: &[Entry; 64], right: &[Entry; 64]) -> [Entry; 64]
+// The walks of a table and a passage, one behind the other, from the first `count` states.
+fn join_rows(count: u8, left: &[Entry; 64], right: &Passage) -> [Entry; 64]
     requires { count ≤ 64 }
-    ensures { result ≡ rows (through count left.now right.now) }
+    ensures { result ≡ rows (through count left.now right.now.entries) }
 {
     let mut entries = *left;
-    for s in 0..count {
-        let first = left[s as usize];
-        entries[s as usize] = join_entries(&first, &entry_at(right, first.end));
+    for entry in entries[..count as usize].iter_mut() {
+        *entry = join_entries(entry, &right.entry(entry.end));
     }
     entries
 }
@@ -114,44 +90,40 @@ impl<G: Grammar> Walk<G> {
 }
 
 impl<G: Grammar> Meter for Walk<G> {
-    type Reading = Bounded<Passage>;
+    type Reading = Option<Passage>;
 
     ghost scale = { λ m. walk_measure (G.Grammar.meaning m.grammar) };
 
     ghost lawful = { λ m. walk_lawful (G.Grammar.meaning m.grammar) (G.Grammar.lawful m.grammar) };
 
-    fn empty(&self) -> Bounded<Passage> {
-        Bounded::Within(Passage {
+    fn empty(&self) -> Option<Passage> {
+        Some(Passage {
             length: 0,
             entries: still_rows(),
         })
     }
 
-    fn single(&self, byte: u8) -> Bounded<Passage> {
-        Bounded::Within(Passage {
+    fn single(&self, byte: u8) -> Option<Passage> {
+        Some(Passage {
             length: 1,
             entries: self.walk_rows(&[byte]),
         })
     }
 
-    fn join(&self, left: &Bounded<Passage>, right: &Bounded<Passage>) -> Bounded<Passage> {
-        match (left, right) {
-            (Bounded::Within(p), Bounded::Within(q)) => match length_within(p.length, q.length) {
-                Some(length) => Bounded::Within(Passage {
-                    length,
-                    entries: join_rows(self.grammar.count(), &p.entries, &q.entries),
-                }),
-                None => Bounded::Overlong,
-            },
-            _ => Bounded::Overlong,
-        }
+    fn join(&self, left: &Option<Passage>, right: &Option<Passage>) -> Option<Passage> {
+        let (left, right) = (left.as_ref()?, right.as_ref()?);
+        let length = length_within(left.length, right.length)?;
+        Some(Passage {
+            length,
+            entries: join_rows(self.grammar.count(), &left.entries, right),
+        })
     }
 
-    fn measure(&self, bytes: &[u8]) -> Bounded<Passage> {
+    fn measure(&self, bytes: &[u8]) -> Option<Passage> {
         if bytes.len() > LONGEST as usize {
-            return Bounded::Overlong;
+            return None;
         }
-        Bounded::Within(Passage {
+        Some(Passage {
             length: bytes.len() as u32,
             entries: self.walk_rows(bytes),
         })

@@ -17,7 +17,7 @@ returns-in_default g c text e =
     let grammar = c.args.self.now.grammar.now in
     let a = g.G.Grammar.meaning grammar in
     let from = c.in_ok-from.from in
-    let long = overlong_told a (g.G.Grammar.lawful grammar) text (λ p z. c.in_default.not-Within p (e ∙ z)) in
+    let long = overlong_told a (g.G.Grammar.lawful grammar) text (λ p z. c.in_default.not-Some p (e ∙ z)) in
     sym (ap (λ f. forwards (trace_on a) f text) c.in_ok-from.was ∙ gets_lost a text from.read from.state (omega arith))
 
 pub returns-then-passage-saturating_sub : goal.returns-then-passage-saturating_sub
@@ -25,8 +25,8 @@ returns-then-passage-saturating_sub g c text e =
     let grammar = c.args.self.now.grammar.now in
     let a = g.G.Grammar.meaning grammar in
     let from = c.in_ok-from.from in
-    let p = c.in-Within.passage in
-    let told = passage_told a (g.G.Grammar.lawful grammar) text p (sym e ∙ c.in-Within.is) in
+    let p = c.in-Some.passage in
+    let told = passage_told a (g.G.Grammar.lawful grammar) text p (sym e ∙ c.in-Some.is) in
     let long = ap (λ (q : Passage). q.length) told.1 in
     sym (ap (λ f. forwards (trace_on a) f text) c.in_ok-from.was ∙ gets_lost a text from.read from.state (omega (arith, long, c.saturating_sub.ensures, c.if-passage-saturating_sub.true)))
 
@@ -35,8 +35,8 @@ returns g c text e =
     let grammar = c.args.self.now.grammar.now in
     let a = g.G.Grammar.meaning grammar in
     let from = c.in_ok-from.from in
-    let p = c.in-Within.passage in
-    let told = passage_told a (g.G.Grammar.lawful grammar) text p (sym e ∙ c.in-Within.is) in
+    let p = c.in-Some.passage in
+    let told = passage_told a (g.G.Grammar.lawful grammar) text p (sym e ∙ c.in-Some.is) in
     let long = ap (λ (q : Passage). q.length) told.1 in
     let is = c.entry_at.ensures ∙ entry_told a (g.G.Grammar.lawful grammar) text p told.1 from.state in
     some_traced (ap (λ n. from.read + n) long) (ap (λ (y : Entry). y.end) is)

@@ -1,5 +1,4 @@
-use Rattle.std.proofs.Common.{sym, ap, ◌∙◌, arith}
-use Rattle.measure.specs.declared.bounded_reading.Bounded.TheVariants.{Within}
+use Rattle.std.proofs.Common.{sym, ap, ◌∙◌, arith, Some}
 use Rattle.measure.specs.Walk.{passage}
 use Rattle.measure.proofs.Bounded.{bounded_within, bounded_over}
 use Rattle.measure.proofs.Walk.{walk_is, same_passage}
@@ -17,4 +16,4 @@ returns g c =
     let a = g.G.Grammar.meaning c.args.self.now.grammar in
     let lawful = g.G.Grammar.lawful c.args.self.now.grammar in
     let bytes = c.args.bytes.now in
-    ap Within (same_passage (omega arith) c.walk_rows.ensures) ∙ sym (walk_is a lawful bytes ∙ bounded_within (passage a) bytes c.if-bytes.false)
+    ap Some (same_passage (omega arith) c.walk_rows.ensures) ∙ sym (walk_is a lawful bytes ∙ bounded_within (passage a) bytes c.if-bytes.false)
