@@ -3,18 +3,20 @@
 use Rattle.std.specs.Prelude.{◌≡◌, ℕ, cond, ◌==◌}
 use Rattle.automaton.specs.Automaton.{Automaton}
 use Rattle.automaton.specs.Class.{mark}
+use Rattle.automaton.specs.declared.role.BracketKind.{BracketKind}
+use Rattle.automaton.specs.declared.role.BracketKind.TheVariants.{Round, Square, Curly}
 use Rattle.automaton.specs.declared.role.Role.{Role}
 use Rattle.automaton.specs.declared.role.Role.TheVariants.{Plain, Opening, Closing}
 
--- ( ) [ ] { } are the brackets of kinds 1, 2 and 3.
+-- ( ) [ ] { } are the brackets, of three kinds.
 abbrev pub bracket : ℕ → Role
 bracket b =
-    cond (b == 0x28) (Opening 1)
-    (cond (b == 0x29) (Closing 1)
-    (cond (b == 0x5B) (Opening 2)
-    (cond (b == 0x5D) (Closing 2)
-    (cond (b == 0x7B) (Opening 3)
-    (cond (b == 0x7D) (Closing 3) Plain)))))
+    cond (b == 0x28) (Opening Round)
+    (cond (b == 0x29) (Closing Round)
+    (cond (b == 0x5B) (Opening Square)
+    (cond (b == 0x5D) (Closing Square)
+    (cond (b == 0x7B) (Opening Curly)
+    (cond (b == 0x7D) (Closing Curly) Plain)))))
 
 -- A bracket plays its role where its class is that of a mark, and no other byte has one.
 abbrev pub role : Automaton → ℕ → ℕ → Role

@@ -1,29 +1,46 @@
 -- Two partners belong to each other. Between them the text is deeper than outside of them, so neither has a nearer one.
-use Rattle.std.proofs.Common.{◌≡◌, ℕ, zero, suc, ◌+◌, ◌-◌, ◌<◌, ◌≤◌, Bool, false, length, List, Some, None, Option, eqb, sym, refl, ap, ◌∙◌, subst, ⊎_elim, arith}
-use Rattle.std.proofs.lemmas.Bool.{cases_lt, cases_eq, eq-eqb, ne_eqb}
+use Rattle.std.proofs.Common.{◌≡◌, ℕ, zero, suc, ◌+◌, ◌-◌, ◌<◌, ◌≤◌, Bool, false, length, List, Some, None, Option, sym, refl, ap, ◌∙◌, subst, ⊎_elim, arith}
+use Rattle.std.proofs.lemmas.Bool.{cases_lt}
 use Rattle.automaton.specs.Automaton.{Automaton}
+use Rattle.automaton.specs.declared.role.BracketKind.{BracketKind}
+use Rattle.automaton.specs.declared.role.BracketKind.TheVariants.{Round, Square, Curly}
 use Rattle.automaton.specs.declared.role.Role.{Role}
 use Rattle.automaton.specs.declared.role.Role.TheVariants.{Plain, Opening, Closing}
 use Rattle.measure.specs.Unmatched.{opens, closes}
 use Rattle.measure.proofs.Unmatched.{one_role}
 use Rattle.search.proofs.Places.{Lowest, Highest, least_is, least_found, greatest_is, greatest_found}
-use Rattle.brackets.specs.Partner.{role_at, kind_of, level, agree, partner_ahead, partner_behind, told, partner_by, partner}
+use Rattle.brackets.specs.Partner.{role_at, kind_of, same_kind, level, agree, partner_ahead, partner_behind, told, partner_by, partner}
 use Rattle.brackets.specs.Laws.{PartnersArePaired}
 use Rattle.brackets.specs.declared.partner.Partner.{Partner}
 use Rattle.brackets.proofs.Depth.{opened, closed, role_outside, opened_more, closed_more, uneven_by, by_level, by_uneven}
 
-is_opening : (r : Role) → 0 < opens r → (kind : ℕ) × (r ≡ Opening kind)
+is_opening : (r : Role) → 0 < opens r → (kind : BracketKind) × (r ≡ Opening kind)
 is_opening Plain h = absurd (omega arith)
 is_opening (Opening kind) h = (kind, refl)
 is_opening (Closing kind) h = absurd (omega arith)
 
-is_closing : (r : Role) → 0 < closes r → (kind : ℕ) × (r ≡ Closing kind)
+is_closing : (r : Role) → 0 < closes r → (kind : BracketKind) × (r ≡ Closing kind)
 is_closing Plain h = absurd (omega arith)
 is_closing (Opening kind) h = absurd (omega arith)
 is_closing (Closing kind) h = (kind, refl)
 
-turned : (m n : ℕ) → eqb m n ≡ eqb n m
-turned m n = ⊎_elim (λ e. eq-eqb m n e ∙ sym (eq-eqb n m (sym e))) (λ ne. ne_eqb m n ne ∙ sym (ne_eqb n m (λ e. ne (sym e)))) (cases_eq m n)
+turned : (j k : Option BracketKind) → same_kind j k ≡ same_kind k j
+turned None None = refl
+turned None (Some Round) = refl
+turned None (Some Square) = refl
+turned None (Some Curly) = refl
+turned (Some Round) None = refl
+turned (Some Square) None = refl
+turned (Some Curly) None = refl
+turned (Some Round) (Some Round) = refl
+turned (Some Round) (Some Square) = refl
+turned (Some Round) (Some Curly) = refl
+turned (Some Square) (Some Round) = refl
+turned (Some Square) (Some Square) = refl
+turned (Some Square) (Some Curly) = refl
+turned (Some Curly) (Some Round) = refl
+turned (Some Curly) (Some Square) = refl
+turned (Some Curly) (Some Curly) = refl
 
 abbrev told_of : ℕ → Bool → Partner
 told_of place same = record { place = place; agree = same }
@@ -66,7 +83,7 @@ module _ (a : Automaton) (text : List ℕ) where
   same_kinds : (p q : ℕ) → agree a text q p ≡ agree a text p q
   same_kinds p q = turned (kind_of (role_at a text q)) (kind_of (role_at a text p))
 
-  module _ (p kind : ℕ) (is : role_at a text p ≡ Opening kind) (q : ℕ) (found : Lowest (level a text p) (p + 1) (p + 1 + (length text - (p + 1))) q) where
+  module _ (p : ℕ) (kind : BracketKind) (is : role_at a text p ≡ Opening kind) (q : ℕ) (found : Lowest (level a text p) (p + 1) (p + 1 + (length text - (p + 1))) q) where
     deep : (n : ℕ) → p < n → n ≤ q → Deeper p n
     deep = within_ahead p q (ap opens is) (λ r k l. found.first r (omega arith) l)
 
@@ -76,7 +93,7 @@ module _ (a : Automaton) (text : List ℕ) where
         let ends = by_level a text p q (omega (arith, found.behind)) found.right in
         omega (arith, opened_more a text q, closed_more a text q)
 
-    pub closing_there : (other : ℕ) × (role_at a text q ≡ Closing other)
+    pub closing_there : (other : BracketKind) × (role_at a text q ≡ Closing other)
     closing_there = is_closing (role_at a text q) closes_there
 
     back_to : partner_behind a text q ≡ Some p
@@ -93,7 +110,7 @@ module _ (a : Automaton) (text : List ℕ) where
         ∙ ap (told a text q) back_to
         ∙ ap (λ t. Some (told_of p t)) (same_kinds p q)
 
-  module _ (p kind : ℕ) (is : role_at a text p ≡ Closing kind) (within : p < length text) (q : ℕ) (found : Highest (λ r. level a text r p) p q) where
+  module _ (p : ℕ) (kind : BracketKind) (is : role_at a text p ≡ Closing kind) (within : p < length text) (q : ℕ) (found : Highest (λ r. level a text r p) p q) where
     deep_behind : (n : ℕ) → q < n → n ≤ p → Deeper (p + 1) n
     deep_behind n h l = within_behind p q (ap closes is) (λ r k m. found.last r k m) (p - n) n (omega arith) h
 
@@ -103,7 +120,7 @@ module _ (a : Automaton) (text : List ℕ) where
         let ends = by_level a text q p (omega (arith, found.below)) found.right in
         omega (arith, opened_more a text q, closed_more a text q)
 
-    pub opening_there : (other : ℕ) × (role_at a text q ≡ Opening other)
+    pub opening_there : (other : BracketKind) × (role_at a text q ≡ Opening other)
     opening_there = is_opening (role_at a text q) opens_there
 
     ahead_to : partner_ahead a text q ≡ Some p
@@ -126,19 +143,19 @@ module _ (a : Automaton) (text : List ℕ) where
   none_told x e = let z : ◌≡◌ {A = ℕ} 0 1 = cc in omega arith
 
   abbrev ClosingAnswers : ℕ → Partner → Type 0
-  ClosingAnswers p x = ((other : ℕ) × (role_at a text x.place ≡ Closing other)) × Answers p x
+  ClosingAnswers p x = ((other : BracketKind) × (role_at a text x.place ≡ Closing other)) × Answers p x
 
   abbrev OpeningAnswers : ℕ → Partner → Type 0
-  OpeningAnswers p x = ((other : ℕ) × (role_at a text x.place ≡ Opening other)) × Answers p x
+  OpeningAnswers p x = ((other : BracketKind) × (role_at a text x.place ≡ Opening other)) × Answers p x
 
-  pub pairs_ahead : (p kind : ℕ) (x : Partner) → role_at a text p ≡ Opening kind → (o : Option ℕ) → partner_ahead a text p ≡ o → told a text p o ≡ Some x → ClosingAnswers p x
+  pub pairs_ahead : (p : ℕ) (kind : BracketKind) (x : Partner) → role_at a text p ≡ Opening kind → (o : Option ℕ) → partner_ahead a text p ≡ o → told a text p o ≡ Some x → ClosingAnswers p x
   pairs_ahead p kind x is None e t = absurd (none_told x t)
   pairs_ahead p kind x is (Some q) e t =
       let found = least_found (level a text p) (length text - (p + 1)) (p + 1) q e in
       let same : told_of q (agree a text p q) ≡ x = cc in
       subst (ClosingAnswers p) same (closing_there p kind is q found, closing_answers p kind is q found)
 
-  pub pairs_behind : (p kind : ℕ) (x : Partner) → role_at a text p ≡ Closing kind → p < length text → (o : Option ℕ) → partner_behind a text p ≡ o → told a text p o ≡ Some x → OpeningAnswers p x
+  pub pairs_behind : (p : ℕ) (kind : BracketKind) (x : Partner) → role_at a text p ≡ Closing kind → p < length text → (o : Option ℕ) → partner_behind a text p ≡ o → told a text p o ≡ Some x → OpeningAnswers p x
   pairs_behind p kind x is within None e t = absurd (none_told x t)
   pairs_behind p kind x is within (Some q) e t =
       let found = greatest_found (λ r. level a text r p) p q e in
@@ -146,7 +163,7 @@ module _ (a : Automaton) (text : List ℕ) where
       subst (OpeningAnswers p) same (opening_there p kind is within q found, opening_answers p kind is within q found)
 
   -- Only a byte of the text has a role.
-  pub closing_within : (p kind : ℕ) → role_at a text p ≡ Closing kind → p < length text
+  pub closing_within : (p : ℕ) (kind : BracketKind) → role_at a text p ≡ Closing kind → p < length text
   closing_within p kind is =
       ⊎_elim (λ h. h)
       (λ h. let some = ap closes is in let none = ap closes (role_outside a text p h) in absurd (omega arith))

@@ -2,6 +2,7 @@
 -- Each of these laws stands on the contract of a function of src/laws.rt, so that it is proved.
 use Rattle.std.specs.Prelude.{◌≡◌, ℕ, ◌<◌, true, false, List, length, Some, None, Option}
 use Rattle.automaton.specs.Automaton.{Automaton}
+use Rattle.automaton.specs.declared.role.BracketKind.{BracketKind}
 use Rattle.automaton.specs.declared.role.Role.TheVariants.{Plain, Opening, Closing}
 use Rattle.brackets.specs.Partner.{role_at, level, agree, partner}
 use Rattle.brackets.specs.declared.partner.Partner.{Partner}
@@ -32,11 +33,11 @@ NearestBehind a text p (Some x) = LiesBehind a text p x
 
 -- At each place of a text, and at every other number, by what stands there.
 pub record PartnersAreNearest : Type 0 where
-  pub openings : (a : Automaton) (text : List ℕ) (p kind : ℕ) → role_at a text p ≡ Opening kind → NearestAhead a text p (partner a text p)
-  pub closings : (a : Automaton) (text : List ℕ) (p kind : ℕ) → role_at a text p ≡ Closing kind → NearestBehind a text p (partner a text p)
+  pub openings : (a : Automaton) (text : List ℕ) (p : ℕ) (kind : BracketKind) → role_at a text p ≡ Opening kind → NearestAhead a text p (partner a text p)
+  pub closings : (a : Automaton) (text : List ℕ) (p : ℕ) (kind : BracketKind) → role_at a text p ≡ Closing kind → NearestBehind a text p (partner a text p)
   pub others : (a : Automaton) (text : List ℕ) (p : ℕ) → role_at a text p ≡ Plain → partner a text p ≡ None
 
 -- The partner's partner: where one bracket belongs to another, that one belongs to it, and both are told the same of their kinds.
 pub record PartnersArePaired : Type 0 where
-  pub openings : (a : Automaton) (text : List ℕ) (p kind : ℕ) (x : Partner) → role_at a text p ≡ Opening kind → partner a text p ≡ Some x → ((other : ℕ) × (role_at a text x.place ≡ Closing other)) × (partner a text x.place ≡ Some (record { place = p; agree = x.agree }))
-  pub closings : (a : Automaton) (text : List ℕ) (p kind : ℕ) (x : Partner) → role_at a text p ≡ Closing kind → partner a text p ≡ Some x → ((other : ℕ) × (role_at a text x.place ≡ Opening other)) × (partner a text x.place ≡ Some (record { place = p; agree = x.agree }))
+  pub openings : (a : Automaton) (text : List ℕ) (p : ℕ) (kind : BracketKind) (x : Partner) → role_at a text p ≡ Opening kind → partner a text p ≡ Some x → ((other : BracketKind) × (role_at a text x.place ≡ Closing other)) × (partner a text x.place ≡ Some (record { place = p; agree = x.agree }))
+  pub closings : (a : Automaton) (text : List ℕ) (p : ℕ) (kind : BracketKind) (x : Partner) → role_at a text p ≡ Closing kind → partner a text p ≡ Some x → ((other : BracketKind) × (role_at a text x.place ≡ Opening other)) × (partner a text x.place ≡ Some (record { place = p; agree = x.agree }))

@@ -5,6 +5,8 @@ use Rattle.std.specs.List.{between}
 use Rattle.automaton.specs.Automaton.{Automaton}
 use Rattle.automaton.specs.Bracket.{role}
 use Rattle.automaton.specs.Walk.{state_before}
+use Rattle.automaton.specs.declared.role.BracketKind.{BracketKind}
+use Rattle.automaton.specs.declared.role.BracketKind.TheVariants.{Round, Square, Curly}
 use Rattle.automaton.specs.declared.role.Role.{Role}
 use Rattle.automaton.specs.declared.role.Role.TheVariants.{Plain, Opening, Closing}
 use Rattle.measure.specs.Unmatched.{openings_in, closings_in}
@@ -16,10 +18,17 @@ is_live Plain = false
 is_live (Opening kind) = true
 is_live (Closing kind) = true
 
-abbrev pub kind_of : Role → ℕ
-kind_of Plain = 0
-kind_of (Opening kind) = kind
-kind_of (Closing kind) = kind
+abbrev pub kind_of : Role → Option BracketKind
+kind_of Plain = None
+kind_of (Opening kind) = Some kind
+kind_of (Closing kind) = Some kind
+
+abbrev pub same_kind : Option BracketKind → Option BracketKind → Bool
+same_kind None None = true
+same_kind (Some Round) (Some Round) = true
+same_kind (Some Square) (Some Square) = true
+same_kind (Some Curly) (Some Curly) = true
+same_kind one other = false
 
 module _ (a : Automaton) (text : List ℕ) where
   -- The role of the byte at a place of the text.
@@ -46,7 +55,7 @@ module _ (a : Automaton) (text : List ℕ) where
 
   -- Whether the brackets at two places are of one kind.
   abbrev pub agree : ℕ → ℕ → Bool
-  agree p q = kind_of (role_at p) == kind_of (role_at q)
+  agree p q = same_kind (kind_of (role_at p)) (kind_of (role_at q))
 
   abbrev pub told : ℕ → Option ℕ → Option Partner
   told p None = None

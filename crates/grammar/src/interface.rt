@@ -4,7 +4,7 @@ ghost use Rattle.automaton.specs.Automaton.{Automaton, Lawful};
 ghost use Rattle.automaton.specs.Bracket.{role as role_of};
 
 use crate::class;
-use automaton::role::Role;
+use automaton::role::{BracketKind, Role};
 
 pub trait Grammar {
     // The four answers as values, and the proof of their laws.
@@ -36,12 +36,12 @@ pub trait Grammar {
             return Role::Plain;
         }
         match byte {
-            b'(' => Role::Opening(1),
-            b')' => Role::Closing(1),
-            b'[' => Role::Opening(2),
-            b']' => Role::Closing(2),
-            b'{' => Role::Opening(3),
-            b'}' => Role::Closing(3),
+            b'(' => Role::Opening(BracketKind::Round),
+            b')' => Role::Closing(BracketKind::Round),
+            b'[' => Role::Opening(BracketKind::Square),
+            b']' => Role::Closing(BracketKind::Square),
+            b'{' => Role::Opening(BracketKind::Curly),
+            b'}' => Role::Closing(BracketKind::Curly),
             _ => Role::Plain,
         }
     }

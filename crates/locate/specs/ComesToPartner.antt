@@ -2,6 +2,7 @@
 use Rattle.std.specs.Prelude.{◌≡◌, ℕ, ◌+◌, ◌-◌, ◌≤◌, cond, List, length, take, drop, Some, None, Option}
 use Rattle.automaton.specs.Automaton.{Automaton}
 use Rattle.automaton.specs.Walk.{state_before}
+use Rattle.automaton.specs.declared.role.BracketKind.{BracketKind}
 use Rattle.automaton.specs.declared.role.Role.TheVariants.{Opening, Closing}
 use Rattle.measure.specs.Bounded.{longest}
 use Rattle.search.specs.declared.stop.Stop.{Stop}
@@ -22,8 +23,8 @@ stopped_behind place s = cond s.stopped (Some ((place - s.passed) - 1)) None
 
 -- From behind an opening on, with that opening unmatched.
 abbrev pub AheadComesToPartner : Type 0
-AheadComesToPartner = (a : Automaton) (text : List ℕ) (p kind : ℕ) → length text ≤ deepest → role_at a text p ≡ Opening kind → stopped_before (p + 1) (stop (ahead_on a) (nested (state_before a text (p + 1)) 1) (drop (p + 1) text)) ≡ partner_ahead a text p
+AheadComesToPartner = (a : Automaton) (text : List ℕ) (p : ℕ) (kind : BracketKind) → length text ≤ deepest → role_at a text p ≡ Opening kind → stopped_before (p + 1) (stop (ahead_on a) (nested (state_before a text (p + 1)) 1) (drop (p + 1) text)) ≡ partner_ahead a text p
 
 -- From before a closing back, with that closing unmatched; the walk is traced from the first byte on.
 abbrev pub BehindComesToPartner : Type 0
-BehindComesToPartner = (a : Automaton) (text : List ℕ) (p kind : ℕ) → length text ≤ longest → role_at a text p ≡ Closing kind → stopped_behind p (back_stop (trace_on a) (behind_on a) (Some (traced 0 0)) (take p text) 1) ≡ partner_behind a text p
+BehindComesToPartner = (a : Automaton) (text : List ℕ) (p : ℕ) (kind : BracketKind) → length text ≤ longest → role_at a text p ≡ Closing kind → stopped_behind p (back_stop (trace_on a) (behind_on a) (Some (traced 0 0)) (take p text) 1) ≡ partner_behind a text p

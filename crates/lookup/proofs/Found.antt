@@ -3,6 +3,7 @@ use Rattle.std.proofs.Common.{◌≡◌, ℕ, ◌+◌, ◌-◌, ◌≤◌, true,
 use Rattle.std.proofs.lemmas.Bool.{cond-true, cond-false}
 use Rattle.automaton.specs.Automaton.{Automaton}
 use Rattle.automaton.specs.Walk.{state_before}
+use Rattle.automaton.specs.declared.role.BracketKind.{BracketKind}
 use Rattle.automaton.specs.declared.role.Role.TheVariants.{Opening, Closing}
 use Rattle.measure.specs.Bounded.{longest}
 use Rattle.search.specs.declared.stop.Stop.{Stop}
@@ -15,7 +16,7 @@ use Rattle.locate.specs.ComesToPartner.{stopped_before, stopped_behind}
 use Rattle.locate.specs.declared.nested.Nested.{Nested}
 use Rattle.locate.proofs.Partners.{ahead_comes_to_partner, behind_comes_to_partner}
 
-module _ (a : Automaton) (text : List ℕ) (p kind : ℕ) (short : length text ≤ longest) where
+module _ (a : Automaton) (text : List ℕ) (p : ℕ) (kind : BracketKind) (short : length text ≤ longest) where
   module _ (is : role_at a text p ≡ Opening kind) (state : ℕ) (right : state ≡ state_before a text (p + 1)) (s : Stop Nested) (found : s ≡ stop (ahead_on a) (nested state 1) (drop (p + 1) text)) where
     ahead : stopped_before (p + 1) s ≡ partner_ahead a text p
     ahead = ap (stopped_before (p + 1)) (found ∙ ap (λ z. stop (ahead_on a) (nested z 1) (drop (p + 1) text)) right) ∙ ahead_comes_to_partner a text p kind (omega arith) is

@@ -1,5 +1,6 @@
 // The partner of a bracket, by the readings of the document's meter.
 ghost use Rattle.std.specs.Prelude.{◌≡◌, ℕ, ◌<◌, ◌≤◌, length, take, drop, IfOk, if◌then◌else◌, Some, None, nat_lt, slice_index};
+ghost use Rattle.automaton.specs.declared.role.BracketKind.{BracketKind};
 ghost use Rattle.automaton.specs.declared.role.Role.TheVariants.{Opening, Closing};
 ghost use Rattle.measure.specs.Bounded.{longest};
 ghost use Rattle.search.specs.Forwards.{stop};
@@ -12,7 +13,7 @@ ghost use Rattle.tree.specs.Public.{KeptBy};
 ghost use Rattle.editing.specs.Content.{text_in, model_in, document_measure};
 ghost use Rattle.lookup.specs.Partner.{RefusedAnyway};
 
-use automaton::role::Role;
+use automaton::role::{BracketKind, Role};
 use brackets::Partner;
 use editing::{Readings, state_before};
 use grammar::Grammar;
@@ -100,7 +101,7 @@ fn partner_ahead<X: Copy, G: Grammar, H: Meter<Reading = X>>(
 ) -> Option<u32>
     requires within { place < length (text_in tree.now) }
     requires short { length (text_in tree.now) ≤ longest }
-    ensures { KeptBy tree.now (document_measure (G.Grammar.meaning meter.now.first.grammar) (H.Meter.scale meter.now.second.second)) → (kind : ℕ) → role_at (G.Grammar.meaning meter.now.first.grammar) (text_in tree.now) place ≡ Opening kind → result ≡ partner_ahead (G.Grammar.meaning meter.now.first.grammar) (text_in tree.now) place }
+    ensures { KeptBy tree.now (document_measure (G.Grammar.meaning meter.now.first.grammar) (H.Meter.scale meter.now.second.second)) → (kind : BracketKind) → role_at (G.Grammar.meaning meter.now.first.grammar) (text_in tree.now) place ≡ Opening kind → result ≡ partner_ahead (G.Grammar.meaning meter.now.first.grammar) (text_in tree.now) place }
 {
     let behind = place + 1;
     let state = state_before(tree, meter, behind);
@@ -119,7 +120,7 @@ fn partner_behind<X: Copy, G: Grammar, H: Meter<Reading = X>>(
     place: u32,
 ) -> Option<u32>
     requires short { length (text_in tree.now) ≤ longest }
-    ensures { KeptBy tree.now (document_measure (G.Grammar.meaning meter.now.first.grammar) (H.Meter.scale meter.now.second.second)) → (kind : ℕ) → role_at (G.Grammar.meaning meter.now.first.grammar) (text_in tree.now) place ≡ Closing kind → result ≡ partner_behind (G.Grammar.meaning meter.now.first.grammar) (text_in tree.now) place }
+    ensures { KeptBy tree.now (document_measure (G.Grammar.meaning meter.now.first.grammar) (H.Meter.scale meter.now.second.second)) → (kind : BracketKind) → role_at (G.Grammar.meaning meter.now.first.grammar) (text_in tree.now) place ≡ Closing kind → result ≡ partner_behind (G.Grammar.meaning meter.now.first.grammar) (text_in tree.now) place }
 {
     let found = search_behind(tree, meter, place);
     if found.stopped {
@@ -129,14 +130,13 @@ fn partner_behind<X: Copy, G: Grammar, H: Meter<Reading = X>>(
     }
 }
 
-// The kind of a bracket, and 0 for no bracket.
-fn kind_of(role: Role) -> u8
+// The kind of a bracket, where there is one.
+fn kind_of(role: Role) -> Option<BracketKind>
     ensures { result ≡ kind_of role }
 {
     match role {
-        Role::Plain => 0,
-        Role::Opening(kind) => kind,
-        Role::Closing(kind) => kind,
+        Role::Plain => None,
+        Role::Opening(kind) | Role::Closing(kind) => Some(kind),
     }
 }
 
