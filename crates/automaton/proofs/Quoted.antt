@@ -1,5 +1,5 @@
 -- Quoted is lawful over every lawful grammar.
-use Rattle.std.proofs.Common.{◌≡◌, ℕ, ◌*◌, ◌<◌, ltb, arith}
+use Rattle.std.proofs.Common.{ℕ, ◌*◌, ◌<◌, ltb, arith}
 use Rattle.std.proofs.lemmas.Bool.{cond_both, ltb-true, ltb-false}
 use Rattle.std.proofs.lemmas.Bool.Decides.{nat_tests}
 use Rattle.automaton.specs.Automaton.{Automaton, Lawful}
@@ -37,7 +37,3 @@ module _ (G : Automaton) (lawful : Lawful G) where
       automaton_lawful (fitted (3 * G.count)) _ _ _ (fitted_few (3 * G.count))
       (λ s b h. let e = fitted_is (3 * G.count) s h in rw e (step_fits (quoted_state G s) b (state_fits s (rw e at h))))
       (λ s b. class_small (quoted_state G s) b)
-
--- A state that is the grammar's own lies below its count.
-pub below_within : (G : Automaton) (state s : ℕ) → Below s ≡ quoted_state G state → s < G.count
-below_within G state s e = grind (arith, nat_tests)

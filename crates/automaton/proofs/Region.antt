@@ -44,10 +44,3 @@ module _ (G H : Automaton) (lawful : Lawful G) (inner-lawful : Lawful H) where
       automaton_lawful (region_count G H) _ _ _ count_few
       (λ s b h. let e = count_is s h in rw e.1 (step_fits (region_state G H s) b (state_fits s e.0 (rw e.1 at h)) e.0))
       (λ s b. class_small (region_state G H s) b)
-
-  -- The state in which a region begins is one of the layer's.
-  pub entered_few : (state s b : ℕ) → state < region_count G H → Below s ≡ region_state G H state → G.count + H.count * G.step s b < 64
-  entered_few state s b h e =
-      let counts = count_is state h in
-      let own : s < G.count = grind (arith, nat_tests) in
-      omega (arith, count_few, counts.1, mul-add-lt (G.step s b) H.count 0 G.count (lawful.step_below s b own) counts.0)

@@ -1,6 +1,6 @@
 -- The laws of a walk and of the colours: over `++`, and one byte more.
-use Rattle.std.proofs.Common.{◌≡◌, ℕ, suc, ◌+◌, ◌<◌, List, [], ◌∷◌, ◌++◌, length, get_or, take, drop, set, sym, refl, ap, ◌∙◌}
-use Rattle.std.proofs.lemmas.List.{take_more, drop_more, set_at, append_assoc}
+use Rattle.std.proofs.Common.{◌≡◌, ℕ, suc, ◌+◌, ◌<◌, List, [], ◌∷◌, ◌++◌, length, get_or, take, refl, ap, ◌∙◌}
+use Rattle.std.proofs.lemmas.List.{take_more}
 use Rattle.automaton.specs.Automaton.{Automaton}
 use Rattle.automaton.specs.Walk.{walk, colours_from}
 
@@ -20,15 +20,3 @@ module _ (a : Automaton) where
   -- one byte more
   pub walk_more : (s : ℕ) (xs : List ℕ) (i : ℕ) → i < length xs → walk a s (take (i + 1) xs) ≡ a.step (walk a s (take i xs)) (get_or xs i 0)
   walk_more s xs i h = ap (walk a s) (take_more xs i 0 h) ∙ walk_append s (take i xs) (get_or xs i 0 ∷ [])
-
-  pub colours_more : (s : ℕ) (xs : List ℕ) (i : ℕ) → i < length xs → colours_from a s (take (i + 1) xs) ≡ colours_from a s (take i xs) ++ (a.class (walk a s (take i xs)) (get_or xs i 0) ∷ [])
-  colours_more s xs i h = ap (colours_from a s) (take_more xs i 0 h) ∙ colours_append s (take i xs) (get_or xs i 0 ∷ [])
-
-  -- what is left of a run of bytes, one byte on
-  pub walk_rest : (s : ℕ) (xs : List ℕ) (i : ℕ) → i < length xs → walk a s (drop i xs) ≡ walk a (a.step s (get_or xs i 0)) (drop (i + 1) xs)
-  walk_rest s xs i h = ap (walk a s) (drop_more xs i 0 h)
-
--- A write behind what was written so far.
-pub write_next : (front out : List ℕ) (i v : ℕ) → length front ≡ i → i < length out → set (front ++ drop i out) i v ≡ (front ++ (v ∷ [])) ++ drop (i + 1) out
-write_next front out i v long within =
-    ap (λ l. set (front ++ l) i v) (drop_more out i 0 within) ∙ set_at front (get_or out i 0) (drop (i + 1) out) v i long ∙ sym (append_assoc front (v ∷ []) (drop (i + 1) out))

@@ -7,3 +7,4 @@ pub mod byte_kind;
 pub mod laws;
 pub mod layer_state;
 pub mod role;
+pub mod word_state;

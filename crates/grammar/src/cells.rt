@@ -10,9 +10,9 @@ pub fn colour_cells<G: Grammar>(grammar: &G, state: u8, cells: &mut [u8]) -> u8
     ensures coloured { cells.new ≡ colours_from (G.meaning grammar.now) state cells.old }
 {
     let mut now_in = state;
-    for i in 0..cells.len() {
-        let byte = cells[i];
-        cells[i] = grammar.class(now_in, byte);
+    for cell in cells.iter_mut() {
+        let byte = *cell;
+        *cell = grammar.class(now_in, byte);
         now_in = grammar.step(now_in, byte);
     }
     now_in

@@ -2,6 +2,7 @@
 ghost use Rattle.std.specs.Prelude.{◌≡◌, ◌++◌, length, take, drop};
 ghost use Rattle.automaton.specs.Walk.{walk as walk_from, colours_from};
 
+use crate::cells::colour_cells;
 use crate::interface::Grammar;
 
 // The state behind `bytes`, read from `state` on.
@@ -21,11 +22,8 @@ pub fn colour<G: Grammar>(grammar: &G, state: u8, bytes: &[u8], out: &mut [u8]) 
     ensures behind { result ≡ walk_from (G.meaning grammar.now) state (take (length out.old) bytes.now) }
     ensures coloured { out.new ≡ colours_from (G.meaning grammar.now) state (take (length out.old) bytes.now) ++ drop (length bytes.now) out.old }
 {
-    let mut now_in = state;
-    for i in 0..bytes.len().min(out.len()) {
-        let byte = bytes[i];
-        out[i] = grammar.class(now_in, byte);
-        now_in = grammar.step(now_in, byte);
-    }
-    now_in
+    let room = bytes.len().min(out.len());
+    let front = &mut out[..room];
+    front.copy_from_slice(&bytes[..room]);
+    colour_cells(grammar, state, front)
 }

@@ -1,20 +1,15 @@
 // Scene words: blanks, words, numbers and marks, the grammar at the bottom of every pile.
 ghost use Rattle.std.specs.Prelude.{◌≡◌};
-ghost use Rattle.automaton.specs.Words.{words, byte_kind};
+ghost use Rattle.automaton.specs.Layer.{state_among};
+ghost use Rattle.automaton.specs.Words.{words, byte_kind, word_state};
 ghost use Rattle.automaton.proofs.Words.{words_lawful};
 
 use crate::class;
 use crate::interface::Grammar;
 use automaton::byte_kind::ByteKind;
+use automaton::word_state::WordState;
 
 const COUNT: u8 = 3;
-
-// The states: between words, in a word, in a number.
-const GROUND: u8 = 0;
-
-const IN_WORD: u8 = 1;
-
-const IN_NUMBER: u8 = 2;
 
 #[derive(Clone, Copy)]
 pub struct Words;
@@ -31,6 +26,18 @@ fn kind_of(byte: u8) -> ByteKind
     }
 }
 
+// What a number stands for, if it is a state.
+fn state_of(state: u8) -> Option<WordState>
+    ensures { result ≡ state_among words.count word_state state }
+{
+    match state {
+        0 => Some(WordState::Ground),
+        1 => Some(WordState::InWord),
+        2 => Some(WordState::InNumber),
+        _ => None,
+    }
+}
+
 impl Grammar for Words {
     ghost meaning = { λ _. words };
 
@@ -41,29 +48,26 @@ impl Grammar for Words {
     }
 
     fn step(&self, state: u8, byte: u8) -> u8 {
-        if state >= COUNT {
+        let Some(at) = state_of(state) else {
             return state;
-        }
-        match kind_of(byte) {
-            ByteKind::Letter => IN_WORD,
-            ByteKind::Digit if state == IN_WORD => IN_WORD,
-            ByteKind::Digit => IN_NUMBER,
-            ByteKind::Point if state == IN_NUMBER => IN_NUMBER,
-            ByteKind::Blank | ByteKind::Point | ByteKind::Other => GROUND,
-        }
+        };
+        let behind = match (kind_of(byte), at) {
+            (ByteKind::Letter, _) | (ByteKind::Digit, WordState::InWord) => WordState::InWord,
+            (ByteKind::Digit, _) | (ByteKind::Point, WordState::InNumber) => WordState::InNumber,
+            (ByteKind::Blank | ByteKind::Point | ByteKind::Other, _) => WordState::Ground,
+        };
+        behind as u8
     }
 
     fn class(&self, state: u8, byte: u8) -> u8 {
-        if state >= COUNT {
+        let Some(at) = state_of(state) else {
             return class::BLANK;
-        }
-        match kind_of(byte) {
-            ByteKind::Blank => class::BLANK,
-            ByteKind::Letter => class::WORD,
-            ByteKind::Digit if state == IN_WORD => class::WORD,
-            ByteKind::Digit => class::NUMBER,
-            ByteKind::Point if state == IN_NUMBER => class::NUMBER,
-            ByteKind::Point | ByteKind::Other => class::MARK,
+        };
+        match (kind_of(byte), at) {
+            (ByteKind::Blank, _) => class::BLANK,
+            (ByteKind::Letter, _) | (ByteKind::Digit, WordState::InWord) => class::WORD,
+            (ByteKind::Digit, _) | (ByteKind::Point, WordState::InNumber) => class::NUMBER,
+            (ByteKind::Point | ByteKind::Other, _) => class::MARK,
         }
     }
 

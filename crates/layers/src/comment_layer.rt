@@ -1,6 +1,7 @@
 // Comment: a layer in which a comment runs from its begin byte to the end of the line.
 ghost use Rattle.std.specs.Prelude.{◌≡◌};
 ghost use Rattle.automaton.specs.Comment.{comment, comment_state};
+ghost use Rattle.automaton.specs.Layer.{state_among};
 ghost use Rattle.automaton.proofs.Comment.{comment_lawful};
 
 use crate::layer::{LINE_FEED, begins, fitted};
@@ -15,15 +16,17 @@ pub struct Comment<G> {
 }
 
 impl<G: Grammar> Comment<G> {
-    // What a state of the layer stands for.
-    fn state_of(&self, state: u8) -> CommentState
-        ensures { result ≡ comment_state (G.Grammar.meaning self.now.below) state }
+    // What a number stands for, if it is a state of the layer.
+    fn state_of(&self, state: u8) -> Option<CommentState>
+        ensures { let below = G.Grammar.meaning self.now.below in result ≡ state_among (comment below).count (comment_state below) state }
     {
         let n = self.below.count();
-        if state < n {
-            CommentState::Below(state)
+        if state >= self.count() {
+            None
+        } else if state < n {
+            Some(CommentState::Below(state))
         } else {
-            CommentState::Inside(state - n)
+            Some(CommentState::Inside(state - n))
         }
     }
 }
@@ -38,10 +41,10 @@ impl<G: Grammar> Grammar for Comment<G> {
     }
 
     fn step(&self, state: u8, byte: u8) -> u8 {
-        if state >= self.count() {
+        let Some(at) = self.state_of(state) else {
             return state;
-        }
-        match self.state_of(state) {
+        };
+        match at {
             CommentState::Below(s) if begins(BEGIN, &self.below, s, byte) => {
                 self.below.count() + self.below.step(s, byte)
             }
@@ -52,10 +55,10 @@ impl<G: Grammar> Grammar for Comment<G> {
     }
 
     fn class(&self, state: u8, byte: u8) -> u8 {
-        if state >= self.count() {
+        let Some(at) = self.state_of(state) else {
             return class::BLANK;
-        }
-        match self.state_of(state) {
+        };
+        match at {
             CommentState::Below(s) if begins(BEGIN, &self.below, s, byte) => class::COMMENT,
             CommentState::Below(s) => self.below.class(s, byte),
             CommentState::Inside(t) if byte == LINE_FEED => self.below.class(t, byte),
@@ -64,12 +67,9 @@ impl<G: Grammar> Grammar for Comment<G> {
     }
 
     fn is_open(&self, state: u8) -> bool {
-        if state >= self.count() {
-            return false;
-        }
         match self.state_of(state) {
-            CommentState::Below(s) => self.below.is_open(s),
-            CommentState::Inside(_) => false,
+            Some(CommentState::Below(s)) => self.below.is_open(s),
+            Some(CommentState::Inside(_)) | None => false,
         }
     }
 }

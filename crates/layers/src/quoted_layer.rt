@@ -2,6 +2,7 @@
 // It is not called String, since that is the prelude's own type.
 ghost use Rattle.std.specs.Prelude.{◌≡◌};
 ghost use Rattle.automaton.specs.Quoted.{quoted, quoted_state};
+ghost use Rattle.automaton.specs.Layer.{state_among};
 ghost use Rattle.automaton.proofs.Quoted.{quoted_lawful};
 
 use crate::layer::{LINE_FEED, begins, fitted};
@@ -18,17 +19,19 @@ pub struct Quoted<G> {
 }
 
 impl<G: Grammar> Quoted<G> {
-    // What a state of the layer stands for.
-    fn state_of(&self, state: u8) -> QuotedState
-        ensures { result ≡ quoted_state (G.Grammar.meaning self.now.below) state }
+    // What a number stands for, if it is a state of the layer.
+    fn state_of(&self, state: u8) -> Option<QuotedState>
+        ensures { let below = G.Grammar.meaning self.now.below in result ≡ state_among (quoted below).count (quoted_state below) state }
     {
         let n = self.below.count();
-        if state < n {
-            QuotedState::Below(state)
+        if state >= self.count() {
+            None
+        } else if state < n {
+            Some(QuotedState::Below(state))
         } else if state - n < n {
-            QuotedState::Inside(state - n)
+            Some(QuotedState::Inside(state - n))
         } else {
-            QuotedState::Escaped(state - n - n)
+            Some(QuotedState::Escaped(state - n - n))
         }
     }
 }
@@ -43,11 +46,11 @@ impl<G: Grammar> Grammar for Quoted<G> {
     }
 
     fn step(&self, state: u8, byte: u8) -> u8 {
-        if state >= self.count() {
+        let Some(at) = self.state_of(state) else {
             return state;
-        }
+        };
         let n = self.below.count();
-        match self.state_of(state) {
+        match at {
             QuotedState::Below(s) if begins(QUOTE, &self.below, s, byte) => {
                 n + self.below.step(s, byte)
             }
@@ -64,10 +67,10 @@ impl<G: Grammar> Grammar for Quoted<G> {
     }
 
     fn class(&self, state: u8, byte: u8) -> u8 {
-        if state >= self.count() {
+        let Some(at) = self.state_of(state) else {
             return class::BLANK;
-        }
-        match self.state_of(state) {
+        };
+        match at {
             QuotedState::Below(s) if begins(QUOTE, &self.below, s, byte) => class::STRING,
             QuotedState::Below(s) => self.below.class(s, byte),
             QuotedState::Inside(t) => match byte {
@@ -81,12 +84,9 @@ impl<G: Grammar> Grammar for Quoted<G> {
     }
 
     fn is_open(&self, state: u8) -> bool {
-        if state >= self.count() {
-            return false;
-        }
         match self.state_of(state) {
-            QuotedState::Below(s) => self.below.is_open(s),
-            QuotedState::Inside(_) | QuotedState::Escaped(_) => false,
+            Some(QuotedState::Below(s)) => self.below.is_open(s),
+            Some(QuotedState::Inside(_) | QuotedState::Escaped(_)) | None => false,
         }
     }
 }

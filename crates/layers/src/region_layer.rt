@@ -1,6 +1,7 @@
 // Region: a layer in which what stands between two border bytes is read by a second grammar.
-ghost use Rattle.std.specs.Prelude.{◌≡◌, ◌<◌};
-ghost use Rattle.automaton.specs.Region.{region, region_state};
+ghost use Rattle.std.specs.Prelude.{◌≡◌};
+ghost use Rattle.automaton.specs.Layer.{state_among};
+ghost use Rattle.automaton.specs.Region.{region, region_count, region_state};
 ghost use Rattle.automaton.proofs.Region.{region_lawful};
 
 use crate::layer::{begins, fitted};
@@ -16,17 +17,19 @@ pub struct Region<G, H> {
 }
 
 impl<G: Grammar, H: Grammar> Region<G, H> {
-    // What a state of the layer stands for, where the inner grammar can be used.
-    fn state_of(&self, state: u8) -> RegionState
-        requires { 0 < (H.Grammar.meaning self.now.inner).count }
-        ensures { result ≡ region_state (G.Grammar.meaning self.now.below) (H.Grammar.meaning self.now.inner) state }
+    // What a number stands for, if it is a state of the layer: there is none where the inner grammar cannot be used.
+    fn state_of(&self, state: u8) -> Option<RegionState>
+        ensures { let below = G.Grammar.meaning self.now.below in let inner = H.Grammar.meaning self.now.inner in result ≡ state_among (region_count below inner) (region_state below inner) state }
     {
         let n = self.below.count();
-        if state < n {
-            return RegionState::Below(state);
-        }
         let m = self.inner.count();
-        RegionState::Inside((state - n) / m, (state - n) % m)
+        if state >= self.count() {
+            None
+        } else if state < n {
+            Some(RegionState::Below(state))
+        } else {
+            Some(RegionState::Inside((state - n) / m, (state - n) % m))
+        }
     }
 }
 
@@ -42,12 +45,12 @@ impl<G: Grammar, H: Grammar> Grammar for Region<G, H> {
     }
 
     fn step(&self, state: u8, byte: u8) -> u8 {
-        if state >= self.count() {
+        let Some(at) = self.state_of(state) else {
             return state;
-        }
+        };
         let n = self.below.count();
         let m = self.inner.count();
-        match self.state_of(state) {
+        match at {
             RegionState::Below(s) if begins(BORDER, &self.below, s, byte) => {
                 n + m * self.below.step(s, byte)
             }
@@ -58,10 +61,10 @@ impl<G: Grammar, H: Grammar> Grammar for Region<G, H> {
     }
 
     fn class(&self, state: u8, byte: u8) -> u8 {
-        if state >= self.count() {
+        let Some(at) = self.state_of(state) else {
             return class::BLANK;
-        }
-        match self.state_of(state) {
+        };
+        match at {
             RegionState::Below(s) if begins(BORDER, &self.below, s, byte) => class::BORDER,
             RegionState::Below(s) => self.below.class(s, byte),
             RegionState::Inside(_, u) if begins(BORDER, &self.inner, u, byte) => class::BORDER,
@@ -70,12 +73,10 @@ impl<G: Grammar, H: Grammar> Grammar for Region<G, H> {
     }
 
     fn is_open(&self, state: u8) -> bool {
-        if state >= self.count() {
-            return false;
-        }
         match self.state_of(state) {
-            RegionState::Below(s) => self.below.is_open(s),
-            RegionState::Inside(_, u) => self.inner.is_open(u),
+            Some(RegionState::Below(s)) => self.below.is_open(s),
+            Some(RegionState::Inside(_, u)) => self.inner.is_open(u),
+            None => false,
         }
     }
 }

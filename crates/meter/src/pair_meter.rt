@@ -44,6 +44,7 @@ impl<A: Meter, B: Meter> Meter for Pair<A, B> {
         }
     }
 
+    #[tactic(auto, using(measure::proofs::Pair::pair_reading))]
     fn measure(&self, bytes: &[u8]) -> PairReading<A::Reading, B::Reading> {
         PairReading {
             first: self.first.measure(bytes),

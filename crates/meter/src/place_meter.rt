@@ -29,22 +29,6 @@ pub fn width(byte: u8) -> u32
     }
 }
 
-// Two extents, one behind the other, where their lengths together are a length.
-fn join_extents(left: &Extent, right: &Extent, length: u32) -> Extent
-    requires { length ≡ left.now.length + right.now.length }
-    ensures { result ≡ join_extents left.now right.now }
-{
-    Extent {
-        length,
-        lines: left.lines.saturating_add(right.lines),
-        units: if right.lines == 0 {
-            left.units.saturating_add(right.units)
-        } else {
-            right.units
-        },
-    }
-}
-
 impl Meter for Place {
     type Reading = Option<Extent>;
 
@@ -63,14 +47,21 @@ impl Meter for Place {
     fn single(&self, byte: u8) -> Option<Extent> {
         Some(Extent {
             length: 1,
-            lines: if ends_line(byte) { 1 } else { 0 },
+            lines: u32::from(ends_line(byte)),
             units: width(byte),
         })
     }
 
     fn join(&self, left: &Option<Extent>, right: &Option<Extent>) -> Option<Extent> {
         let (left, right) = (left.as_ref()?, right.as_ref()?);
-        let length = length_within(left.length, right.length)?;
-        Some(join_extents(left, right, length))
+        Some(Extent {
+            length: length_within(left.length, right.length)?,
+            lines: left.lines.saturating_add(right.lines),
+            units: if right.lines == 0 {
+                left.units.saturating_add(right.units)
+            } else {
+                right.units
+            },
+        })
     }
 }

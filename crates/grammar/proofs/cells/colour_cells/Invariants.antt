@@ -2,8 +2,8 @@ use Rattle.std.proofs.Common.{◌≡◌, ◌++◌, take, drop}
 use Rattle.automaton.specs.Walk.{walk, colours_from}
 use Rattle.grammar.proofs.cells.colour_cells.Given as goal
 
--- The first i bytes are coloured and walked, and the other cells are as they were.
-abbrev pub invariant-loop-i : goal.invariant-loop-i
-invariant-loop-i g l =
+-- The cells so far are coloured, and what is left of them leads on from here.
+abbrev pub invariant-loop-cell : goal.invariant-loop-cell
+invariant-loop-cell g l =
     let a = g.G.Grammar.meaning l.grammar in
-    (l.now_in ≡ walk a l.state (take l.i l.initial.cells)) × (l.cells ≡ colours_from a l.state (take l.i l.initial.cells) ++ drop l.i l.initial.cells)
+    (walk a l.now_in (drop l.cell-index l.cells) ≡ walk a l.state l.initial.cells) × (take l.cell-index l.cells ++ colours_from a l.now_in (drop l.cell-index l.cells) ≡ colours_from a l.state l.initial.cells)

@@ -1,0 +1,9 @@
+// Where a walk through scene words is.
+
+#[derive(Clone, Copy)]
+pub enum WordState {
+    // Between words.
+    Ground,
+    InWord,
+    InNumber,
+}
