@@ -34,13 +34,13 @@ pub fn chunk(bytes: &[u8], count: usize, k: usize) -> &[u8]
 pub fn build<R: Copy, M: Meter<Reading = R>>(
     meter: &M,
     memory: &mut Memory<R>,
-    cut: Cut,
+    cut: &Cut,
     k: usize,
     n: usize,
 ) -> Option<u16>
     requires idle { (is : List ℕ) × (Idle memory.old is × (n ≤ length is)) }
-    requires within { k + n ≤ cut.count }
-    ensures { (is : List ℕ) → Idle memory.old is → n ≤ length is → (t : Tree) × ((result ≡ root t) × Built (M.scale meter.now) memory.old is n (part cut.bytes.now cut.count k n) memory.new t) }
+    requires within { k + n ≤ cut.now.count }
+    ensures { (is : List ℕ) → Idle memory.old is → n ≤ length is → (t : Tree) × ((result ≡ root t) × Built (M.scale meter.now) memory.old is n (part cut.now.bytes.now cut.now.count k n) memory.new t) }
 {
     if n == 0 {
         return None;

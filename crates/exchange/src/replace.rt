@@ -42,7 +42,7 @@ pub fn insert<R: Copy, M: Meter<Reading = R>>(
     ensures { (a b : Tree) (is : List ℕ) → Parted memory.old first a rest b is → needed (length bytes.now) ≤ length is → (t : Tree) × ((js : List ℕ) × (Whole memory.new result t js × Filled (M.scale meter.now) memory.old a b bytes.now memory.new t)) }
 {
     let cut = Cut::of(bytes);
-    let middle = build(meter, memory, cut, 0, cut.count);
+    let middle = build(meter, memory, &cut, 0, cut.count);
     let front = append(meter, memory, first, middle);
     append(meter, memory, front, rest)
 }
