@@ -3,7 +3,7 @@ ghost use Rattle.std.specs.Prelude.{◌≡◌, ℕ, suc, ◌+◌, ◌<◌, ◌�
 ghost use Rattle.chunks.specs.Tree.{Tree, root, height as height_of, Level};
 ghost use Rattle.chunks.specs.Sides.{around};
 ghost use Rattle.slots.specs.Claim.{nothing};
-ghost use Rattle.slots.specs.View.{Roomy};
+ghost use Rattle.slots.specs.View.{Roomy, Usable};
 ghost use Rattle.slots.specs.Holds.{Holds, Ready};
 ghost use Rattle.slots.specs.Join.{Linked, Joined, Settled, Leaning, Steep, Grown};
 
@@ -14,7 +14,7 @@ use slots::memory::Memory;
 
 // What slot `i` has on a side.
 pub fn child<R: Copy>(memory: &Memory<R>, i: u16, side: Side) -> Option<u16>
-    requires { (Roomy memory.now) × (i < memory.now.usable) }
+    requires { Usable memory.now i }
     ensures { (a b : Tree) → Holds nothing memory.now (around side a i b) → result ≡ root a }
 {
     let slots = &*memory.slots;
@@ -88,7 +88,9 @@ fn top_if_higher<R: Copy>(
     than: Option<u16>,
     by: u8,
 ) -> Option<u16>
-    requires { (Roomy memory.now) × ((((n : Tree) × ((tree ≡ root n) × Holds nothing memory.now n))) × (((o : Tree) × ((than ≡ root o) × Holds nothing memory.now o)))) }
+    requires roomy { Roomy memory.now }
+    requires tree { (n : Tree) × ((tree ≡ root n) × Holds nothing memory.now n) }
+    requires than { (o : Tree) × ((than ≡ root o) × Holds nothing memory.now o) }
     ensures { (n o : Tree) → tree ≡ root n → than ≡ root o → Holds nothing memory.now n → Holds nothing memory.now o → Steep n o by result }
 {
     let height = extent(memory, tree).height;
@@ -137,12 +139,11 @@ fn settle<R: Copy, M: Meter<Reading = R>>(
     requires { (a : Tree) × ((b : Tree) × Grown memory.old near a i (Some far) b) }
     ensures { (a b : Tree) → Grown memory.old near a i (Some far) b → (t : Tree) × ((Some result ≡ root t) × Settled (M.scale meter.now) side memory.old a i b memory.new t) }
 {
-    match top_if_higher(memory, Some(far), near, 1) {
-        Some(_) => rotate(meter, memory, side.other(), far, i, near),
-        None => {
-            link_around(meter, memory, side, near, i, Some(far));
-            i
-        }
+    if top_if_higher(memory, Some(far), near, 1).is_some() {
+        rotate(meter, memory, side.other(), far, i, near)
+    } else {
+        link_around(meter, memory, side, near, i, Some(far));
+        i
     }
 }
 
@@ -163,7 +164,7 @@ pub fn join<R: Copy, M: Meter<Reading = R>>(
         let inner = child(memory, k, side.other());
         let joined = join(meter, memory, side, inner, i, far);
         settle(meter, memory, side, outer, k, joined)
-    } else if let Some(_) = top_if_higher(memory, far, near, 1) {
+    } else if top_if_higher(memory, far, near, 1).is_some() {
         join(meter, memory, side.other(), far, i, near)
     } else {
         link_around(meter, memory, side, near, i, far);

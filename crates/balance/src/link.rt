@@ -3,7 +3,7 @@ ghost use Rattle.std.specs.Prelude.{◌≡◌, ℕ, ◌+◌, ◌<◌, ◌≤◌,
 ghost use Rattle.chunks.specs.declared.side.Side.TheVariants.{Left};
 ghost use Rattle.chunks.specs.Tree.{Tree, node as node_over, root, Level};
 ghost use Rattle.slots.specs.Claim.{Claim, nothing, Says, Fair};
-ghost use Rattle.slots.specs.View.{extent_of, text_of, Roomy};
+ghost use Rattle.slots.specs.View.{extent_of, text_of, Roomy, Usable};
 ghost use Rattle.slots.specs.Holds.{Holds, Owned, Ready};
 ghost use Rattle.slots.specs.Join.{Linked, PlacedAnew};
 
@@ -18,11 +18,7 @@ pub fn extent<R: Copy>(memory: &Memory<R>, link: Option<u16>) -> Extent
 {
     let slots = &*memory.slots;
     match link {
-        None => Extent {
-            height: 0,
-            bytes: 0,
-            chunks: 0,
-        },
+        None => Extent::NONE,
         Some(i) => slots[i as usize].node.extent,
     }
 }
@@ -67,7 +63,7 @@ fn extent_over<R: Copy>(memory: &Memory<R>, left: Option<u16>, i: u16, right: Op
 
 // Writes the place of slot `i` and the reading of what lies under it.
 fn place<R: Copy>(memory: &mut Memory<R>, i: u16, node: Node, sum: R)
-    requires { (Roomy memory.old) × (i < memory.old.usable) }
+    requires { Usable memory.old i }
     ensures { PlacedAnew memory.old i node sum memory.new }
 {
     memory.slots[i as usize].node = node;

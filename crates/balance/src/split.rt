@@ -51,8 +51,5 @@ pub fn append<R: Copy, M: Meter<Reading = R>>(
         return rest;
     }
     let (front, last) = split(meter, memory, first, count - 1);
-    match last {
-        Some(k) => Some(join(meter, memory, Side::Left, front, k, rest)),
-        None => unreachable(),
-    }
+    Some(join(meter, memory, Side::Left, front, last.unwrap(), rest))
 }

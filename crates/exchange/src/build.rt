@@ -4,6 +4,7 @@ ghost use Rattle.chunks.specs.Tree.{Tree, root};
 ghost use Rattle.chunks.specs.Cut.{needed, begin as begin_of, chunk_at, part};
 ghost use Rattle.slots.specs.Free.{Idle, Built};
 
+use crate::cut::Cut;
 use crate::store::store_chunk;
 use balance::join::join;
 use chunks::Side;
@@ -12,7 +13,8 @@ use slots::memory::Memory;
 
 // Where the k-th of `count` chunks of `length` bytes begins.
 fn begin(bytes: usize, count: usize, k: usize) -> usize
-    requires { (0 < count) × (k ≤ count) }
+    requires some { 0 < count }
+    requires within { k ≤ count }
     ensures { result ≡ begin_of bytes count k }
 {
     k * (bytes / count) + k.min(bytes % count)
@@ -28,24 +30,24 @@ pub fn chunk(bytes: &[u8], count: usize, k: usize) -> &[u8]
     &bytes[from..to]
 }
 
-// The tree of `n` of the chunks that `bytes` are cut into, from the k-th on. Both sides of a slot have as many chunks, or nearly so.
+// The tree of `n` of the chunks, from the k-th on. Both sides of a slot have as many chunks, or nearly so.
 pub fn build<R: Copy, M: Meter<Reading = R>>(
     meter: &M,
     memory: &mut Memory<R>,
-    bytes: &[u8],
-    count: usize,
+    cut: &Cut,
     k: usize,
     n: usize,
 ) -> Option<u16>
-    requires { (((is : List ℕ) × (Idle memory.old is × (n ≤ length is)))) × ((count ≡ needed (length bytes.now)) × (k + n ≤ count)) }
-    ensures { (is : List ℕ) → Idle memory.old is → n ≤ length is → (t : Tree) × ((result ≡ root t) × Built (M.scale meter.now) memory.old is n (part bytes.now count k n) memory.new t) }
+    requires idle { (is : List ℕ) × (Idle memory.old is × (n ≤ length is)) }
+    requires within { k + n ≤ cut.now.count }
+    ensures { (is : List ℕ) → Idle memory.old is → n ≤ length is → (t : Tree) × ((result ≡ root t) × Built (M.scale meter.now) memory.old is n (part cut.now.bytes.now cut.now.count k n) memory.new t) }
 {
     if n == 0 {
         return None;
     }
     let half = n / 2;
-    let left = build(meter, memory, bytes, count, k, half);
-    let i = store_chunk(meter, memory, chunk(bytes, count, k + half));
-    let right = build(meter, memory, bytes, count, k + half + 1, n - half - 1);
+    let left = build(meter, memory, cut, k, half);
+    let i = store_chunk(meter, memory, cut.chunk(k + half));
+    let right = build(meter, memory, cut, k + half + 1, n - half - 1);
     Some(join(meter, memory, Side::Left, left, i, right))
 }

@@ -2,7 +2,7 @@
 ghost use Rattle.std.specs.Prelude.{◌≡◌, ℕ, ◌+◌, ◌<◌, ◌≤◌, List, ◌∷◌, Some};
 ghost use Rattle.chunks.specs.Tree.{Tree};
 ghost use Rattle.chunks.specs.Footprint.{one, uses, count, below};
-ghost use Rattle.slots.specs.View.{next_of, Roomy};
+ghost use Rattle.slots.specs.View.{next_of, Usable};
 ghost use Rattle.slots.specs.Split.{Held};
 ghost use Rattle.slots.specs.Free.{Idle, Stack, Elsewhere, freed};
 
@@ -12,7 +12,7 @@ use slots::memory::Memory;
 
 // The free slot behind slot `i`.
 fn next<R: Copy>(memory: &Memory<R>, i: u16) -> Option<u16>
-    requires { (Roomy memory.now) × (i < memory.now.usable) }
+    requires { Usable memory.now i }
     ensures { result ≡ next_of memory.now i }
 {
     let slots = &*memory.slots;
@@ -29,18 +29,14 @@ pub fn take<R: Copy>(memory: &mut Memory<R>) -> u16
     ensures readings { memory.new.readings.now ≡ memory.old.readings.now }
     ensures usable { memory.new.usable ≡ memory.old.usable }
 {
-    match memory.free {
-        Some(i) => {
-            memory.free = next(memory, i);
-            i
-        }
-        None => unreachable(),
-    }
+    let i = memory.free.unwrap();
+    memory.free = next(memory, i);
+    i
 }
 
 // Puts slot `i` on top of the free ones.
 pub fn give<R: Copy>(memory: &mut Memory<R>, i: u16)
-    requires { (Roomy memory.old) × (i < memory.old.usable) }
+    requires { Usable memory.old i }
     ensures elsewhere { Elsewhere memory.old memory.new (one i) }
     ensures free { memory.new.free ≡ Some i }
     ensures next { next_of memory.new i ≡ memory.old.free }

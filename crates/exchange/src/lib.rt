@@ -4,6 +4,7 @@
 #![tactic(auto)]
 
 pub mod build;
+pub mod cut;
 pub mod free;
 pub mod prepare;
 pub mod replace;

@@ -14,9 +14,7 @@ pub fn prepare<R: Copy>(memory: &mut Memory<R>, n: u16)
 {
     memory.usable = n;
     memory.free = None;
-    let mut i = n;
-    while i > 0 {
-        i -= 1;
+    for i in (0..n).rev() {
         give(memory, i);
     }
 }

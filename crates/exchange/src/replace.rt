@@ -6,6 +6,7 @@ ghost use Rattle.slots.specs.Replace.{Whole, Parted, SameSize, Removed, Filled};
 ghost use Rattle.slots.specs.Sound.{Sound, Kept, chunks_in};
 
 use crate::build::build;
+use crate::cut::Cut;
 use crate::free::give_back;
 use balance::split::{append, split};
 use meter::Meter;
@@ -19,7 +20,8 @@ pub fn remove<R: Copy, M: Meter<Reading = R>>(
     from: u16,
     to: u16,
 ) -> (Option<u16>, Option<u16>)
-    requires { (((t : Tree) × ((is : List ℕ) × Whole memory.old link t is))) × (from ≤ to) }
+    requires whole { (t : Tree) × ((is : List ℕ) × Whole memory.old link t is) }
+    requires order { from ≤ to }
     ensures { (t : Tree) (is : List ℕ) → Whole memory.old link t is → (a : Tree) × ((b : Tree) × ((js : List ℕ) × (Parted memory.new result.0 a result.1 b js × Removed (M.scale meter.now) memory.old t from to memory.new a b))) }
 {
     let (first, behind) = split(meter, memory, link, from);
@@ -39,8 +41,8 @@ pub fn insert<R: Copy, M: Meter<Reading = R>>(
     requires { (a : Tree) × ((b : Tree) × ((is : List ℕ) × (Parted memory.old first a rest b is × (needed (length bytes.now) ≤ length is)))) }
     ensures { (a b : Tree) (is : List ℕ) → Parted memory.old first a rest b is → needed (length bytes.now) ≤ length is → (t : Tree) × ((js : List ℕ) × (Whole memory.new result t js × Filled (M.scale meter.now) memory.old a b bytes.now memory.new t)) }
 {
-    let count = bytes.len().div_ceil(64);
-    let middle = build(meter, memory, bytes, count, 0, count);
+    let cut = Cut::of(bytes);
+    let middle = build(meter, memory, &cut, 0, cut.count);
     let front = append(meter, memory, first, middle);
     append(meter, memory, front, rest)
 }

@@ -1,30 +1,22 @@
 // Writing a chunk into a slot and its part of the store.
 ghost use Rattle.std.specs.Prelude.{◌≡◌, ℕ, ◌+◌, ◌<◌, ◌≤◌, List, ◌∷◌};
 ghost use Rattle.chunks.specs.Cut.{Chunk};
-ghost use Rattle.slots.specs.View.{Roomy};
+ghost use Rattle.slots.specs.View.{Usable};
 ghost use Rattle.slots.specs.Free.{Idle, Written, Stored};
 
 use crate::free::take;
 use meter::Meter;
 use slots::memory::Memory;
-use slots::slot::{Extent, Node, Slot};
+use slots::slot::{Node, Slot};
 
 // Makes `bytes` the chunk of slot `i`, with its reading.
 pub fn write<R: Copy>(memory: &mut Memory<R>, i: u16, bytes: &[u8], own: R)
-    requires { (Roomy memory.old) × ((i < memory.old.usable) × (Chunk bytes.now)) }
+    requires usable { Usable memory.old i }
+    requires fits { Chunk bytes.now }
     ensures { Written memory.old i bytes.now own memory.new }
 {
-    let alone = Node {
-        left: None,
-        right: None,
-        extent: Extent {
-            height: 0,
-            bytes: 0,
-            chunks: 0,
-        },
-    };
     memory.slots[i as usize] = Slot {
-        node: alone,
+        node: Node::ALONE,
         size: bytes.len() as u8,
         next: None,
         own,
@@ -39,7 +31,8 @@ pub fn store_chunk<R: Copy, M: Meter<Reading = R>>(
     memory: &mut Memory<R>,
     bytes: &[u8],
 ) -> u16
-    requires { (((i : ℕ) × ((is : List ℕ) × Idle memory.old (i ∷ is)))) × (Chunk bytes.now) }
+    requires idle { (i : ℕ) × ((is : List ℕ) × Idle memory.old (i ∷ is)) }
+    requires fits { Chunk bytes.now }
     ensures { (i : ℕ) (is : List ℕ) → Idle memory.old (i ∷ is) → (result ≡ i) × Stored (M.scale meter.now) memory.old i is bytes.now memory.new }
 {
     let i = take(memory);

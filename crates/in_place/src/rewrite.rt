@@ -4,14 +4,14 @@ ghost use Rattle.chunks.specs.Tree.{Tree, slots as slots_of};
 ghost use Rattle.chunks.specs.Cut.{needed, cut, replaced};
 ghost use Rattle.slots.specs.Replace.{SameSize};
 ghost use Rattle.slots.specs.Sound.{Sound, Kept, chunks_in};
-ghost use Rattle.slots.specs.View.{size_of, Roomy};
+ghost use Rattle.slots.specs.View.{size_of, Usable};
 ghost use Rattle.slots.specs.Split.{Held};
 ghost use Rattle.slots.specs.Rewrite.{Renewed, Rewritten};
 
 use balance::join::child;
 use balance::link::{extent, link as link_anew};
 use chunks::Side;
-use exchange::build::chunk;
+use exchange::cut::Cut;
 use exchange::store::write;
 use meter::Meter;
 use slots::memory::Memory;
@@ -22,50 +22,51 @@ fn renew<R: Copy, M: Meter<Reading = R>>(
     memory: &mut Memory<R>,
     i: u16,
     n: usize,
-    bytes: &[u8],
-    count: usize,
+    cut: &Cut,
     from: usize,
 )
-    requires roomy { (Roomy memory.old) × ((i < memory.old.usable) × ((1 ≤ size_of memory.old i) × (size_of memory.old i ≤ 64))) }
-    requires count_value { (count ≡ needed (length bytes.now)) × (from + count < 2 ^ 64) }
-    ensures { Renewed (M.scale meter.now) memory.old i n bytes.now count from (from + count) memory.new }
+    requires usable { Usable memory.old i }
+    requires some_byte { 1 ≤ size_of memory.old i }
+    requires few_bytes { size_of memory.old i ≤ 64 }
+    requires few_chunks { from + cut.now.count < 2 ^ 64 }
+    ensures { Renewed (M.scale meter.now) memory.old i n cut.now.bytes.now cut.now.count from (from + cut.now.count) memory.new }
 {
-    if n < from || from + count <= n {
+    if n < from || from + cut.count <= n {
         return;
     }
-    let new = chunk(bytes, count, n - from);
+    let new = cut.chunk(n - from);
     let own = meter.measure(new);
     write(memory, i, new, own);
 }
 
-// Writes the chunks that `bytes` are cut into over those of the run from `from` on, in a tree whose first chunk is in place `n`.
+// Writes the chunks over those of the run from `from` on, in a tree whose first chunk is in place `n`.
 pub fn rewrite<R: Copy, M: Meter<Reading = R>>(
     meter: &M,
     memory: &mut Memory<R>,
     link: Option<u16>,
     n: usize,
-    bytes: &[u8],
-    count: usize,
+    cut: &Cut,
     from: usize,
 )
-    requires { (((t : Tree) × (Held memory.old link t × (n + length (slots_of t) < 2 ^ 63)))) × ((count ≡ needed (length bytes.now)) × (from + count < 2 ^ 63)) }
-    ensures { (t : Tree) → Held memory.old link t → Rewritten (M.scale meter.now) memory.old t n bytes.now count from (from + count) memory.new }
+    requires held { (t : Tree) × (Held memory.old link t × (n + length (slots_of t) < 2 ^ 63)) }
+    requires few_chunks { from + cut.now.count < 2 ^ 63 }
+    ensures { (t : Tree) → Held memory.old link t → Rewritten (M.scale meter.now) memory.old t n cut.now.bytes.now cut.now.count from (from + cut.now.count) memory.new }
 {
     let Some(i) = link else {
         return;
     };
     let all = extent(memory, link).chunks as usize;
     let end = n + all;
-    let to = from + count;
+    let to = from + cut.count;
     if end <= from || to <= n {
         return;
     }
     let left = child(memory, i, Side::Left);
     let right = child(memory, i, Side::Right);
     let at = n + extent(memory, left).chunks as usize;
-    rewrite(meter, memory, left, n, bytes, count, from);
-    renew(meter, memory, i, at, bytes, count, from);
-    rewrite(meter, memory, right, at + 1, bytes, count, from);
+    rewrite(meter, memory, left, n, cut, from);
+    renew(meter, memory, i, at, cut, from);
+    rewrite(meter, memory, right, at + 1, cut, from);
     link_anew(meter, memory, left, i, right);
 }
 
@@ -83,6 +84,6 @@ pub fn overwrite<R: Copy, M: Meter<Reading = R>>(
     ensures keeps { Kept (M.scale meter.now) memory.old link → Kept (M.scale meter.now) memory.new link }
     ensures size { SameSize memory.old memory.new }
 {
-    let count = bytes.len().div_ceil(64);
-    rewrite(meter, memory, link, 0, bytes, count, from as usize);
+    let cut = Cut::of(bytes);
+    rewrite(meter, memory, link, 0, &cut, from as usize);
 }

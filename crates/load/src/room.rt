@@ -6,7 +6,7 @@ use crate::loaded::Loaded;
 use crate::loading::{Reading, load};
 use grammar::Grammar;
 use measure::pair_reading::PairReading;
-use slots::slot::{Extent, Node, Slot};
+use slots::slot::{Node, Slot};
 use std::alloc::{AllocError, Global};
 
 // What a reading is before anything was read.
@@ -20,15 +20,7 @@ pub const UNREAD: Reading = PairReading {
 
 // A slot that was never used.
 pub const UNUSED: Slot<Reading> = Slot {
-    node: Node {
-        left: None,
-        right: None,
-        extent: Extent {
-            height: 0,
-            bytes: 0,
-            chunks: 0,
-        },
-    },
+    node: Node::ALONE,
     size: 0,
     next: None,
     own: UNREAD,

@@ -1,5 +1,5 @@
 -- A tree that leans is put right: once, with its top kept, or twice, with its inner tree's top on top.
-use Rattle.std.proofs.Common.{◌≡◌, ℕ, suc, ◌<◌, ◌≤◌, Some, Option, sym, ap, ◌∙◌, subst, arith}
+use Rattle.std.proofs.Common.{◌≡◌, ℕ, suc, ◌+◌, ◌<◌, ◌≤◌, true, false, Some, None, Option, is_some, sym, ap, ◌∙◌, subst, arith}
 use Rattle.measure.specs.Measure.{Measure}
 use Rattle.chunks.specs.declared.side.Side.{Side}
 use Rattle.chunks.specs.Tree.{Tree, root, height, Level}
@@ -8,7 +8,7 @@ use Rattle.chunks.proofs.Sides.{height_around, root_around, opened}
 use Rattle.slots.specs.declared.memory.Memory.{Memory}
 use Rattle.slots.specs.Claim.{nothing}
 use Rattle.slots.specs.Holds.{Holds, Ready}
-use Rattle.slots.specs.Join.{Linked, Joined, Leaning}
+use Rattle.slots.specs.Join.{Linked, Joined, Leaning, Steep}
 use Rattle.slots.proofs.Turning.{Parts, parts, holds_turned, joined_linked, ready_inner, ready_outer, joined_over, ready_first, ready_second, ready_third, joined_twice}
 
 module _ {R : Type 0} (μ : Measure R) {m : Memory R} {s : Side} {outer : Option ℕ} {o : Tree} {k : ℕ} {inner : Option ℕ} {n : Tree} {i : ℕ} {short : Option ℕ} {b : Tree}
@@ -172,3 +172,11 @@ module _ {R : Type 0} {m : Memory R} {s : Side} {outer : Option ℕ} {o : Tree} 
           ),
         ),
       )
+
+-- A tree is higher than another by more than `by` where it has a top for that, and is not where it has none.
+module _ (n o : Tree) (by : ℕ) (top : Option ℕ) (steep : Steep n o by top) where
+  pub steep_higher : is_some top ≡ true → by + height o < height n
+  steep_higher found = elim top as (λ v. Steep n o by v → is_some v ≡ true → by + height o < height n) [ Some j ↦ λ s e. s.1 | None ↦ λ s e. cc ] steep found
+
+  pub steep_lower : is_some top ≡ false → height n ≤ by + height o
+  steep_lower found = elim top as (λ v. Steep n o by v → is_some v ≡ false → height n ≤ by + height o) [ Some j ↦ λ s e. cc | None ↦ λ s e. s ] steep found

@@ -1,5 +1,5 @@
 -- What cutting a tree rests on: at a slot, one side is cut, and the slot joins what is left of it with the other side.
-use Rattle.std.proofs.Common.{◌≡◌, ℕ, zero, suc, ◌+◌, ◌-◌, ◌<◌, ◌≤◌, List, [], ◌∷◌, ◌++◌, length, take, drop, Some, None, Option, sym, refl, ap, ◌∙◌, subst, zero-add, arith}
+use Rattle.std.proofs.Common.{◌≡◌, ℕ, zero, suc, ◌+◌, ◌-◌, ◌<◌, ◌≤◌, List, [], ◌∷◌, ◌++◌, length, take, drop, Some, None, Option, IsSome, sym, refl, ap, ◌∙◌, subst, zero-add, arith}
 use Rattle.std.proofs.lemmas.List.{take-append-drop, take-append-le, drop-append-le, length-append, length-drop, append_assoc, nil_from_length}
 use Rattle.measure.specs.Measure.{Measure}
 use Rattle.chunks.specs.declared.side.Side.TheVariants.{Left}
@@ -182,8 +182,13 @@ module _ {R : Type 0} (μ : Measure R) {m : Memory R} {first : Option ℕ} {a : 
     last_one : length (slots z) ≡ 1
     last_one = ap length cut.back ∙ length-drop at (slots a) ∙ omega arith
 
-    pub last_some : None ≡ root z → ⊥
-    last_some e = let none = leaf_if_none z e in let zero-long = ap (λ (t : Tree). length (slots t)) none in omega (arith, last_one)
+    pub last_some : (last : Option ℕ) → last ≡ root z → IsSome last
+    last_some (Some k) e = refl
+    last_some None e =
+        let none = leaf_if_none z e in
+        let zero-long = ap (λ (t : Tree). length (slots t)) none in
+        let no : ⊥ = omega (arith, last_one) in
+        absurd no
 
     module _ (k : ℕ) (top : Some k ≡ root z) where
       whole : slots a ≡ slots f ++ (k ∷ [])

@@ -1,5 +1,5 @@
 -- What lent memory says of a slot: the length of its chunk, its bytes in the store, the next free slot.
-use Rattle.std.specs.Prelude.{ℕ, ◌*◌, ◌≤◌, List, map, length, take, drop, Some, None, Option, slice_index, slice_index_or}
+use Rattle.std.specs.Prelude.{ℕ, ◌*◌, ◌<◌, ◌≤◌, List, map, length, take, drop, Some, None, Option, slice_index, slice_index_or}
 use Rattle.chunks.specs.Tree.{Tree, slots, height}
 use Rattle.chunks.specs.Cut.{joined}
 use Rattle.slots.specs.declared.memory.Memory.{Memory}
@@ -37,3 +37,7 @@ module _ {R : Type 0} (m : Memory R) where
     pub slot_each : m.usable ≤ length m.slots.now
     pub reading_each : m.usable ≤ length m.readings.now
     pub store_each : 64 * m.usable ≤ length m.store.now
+
+  -- Slot i may be used, and memory has room for it.
+  abbrev pub Usable : ℕ → Type 0
+  Usable i = Roomy × (i < m.usable)

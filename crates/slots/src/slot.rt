@@ -8,12 +8,30 @@ pub struct Extent {
     pub chunks: u16,
 }
 
+impl Extent {
+    // How large no tree is.
+    pub const NONE: Extent = Extent {
+        height: 0,
+        bytes: 0,
+        chunks: 0,
+    };
+}
+
 // A slot's place in the tree: what is on its two sides, and how large the tree under it is, itself included.
 #[derive(Clone, Copy)]
 pub struct Node {
     pub left: Option<u16>,
     pub right: Option<u16>,
     pub extent: Extent,
+}
+
+impl Node {
+    // The place of a slot that is in no tree.
+    pub const ALONE: Node = Node {
+        left: None,
+        right: None,
+        extent: Extent::NONE,
+    };
 }
 
 #[derive(Clone, Copy)]

@@ -7,7 +7,7 @@ use measure::pair_reading::PairReading;
 use measure::place_reading::Extent;
 use measure::walk_reading::Passage;
 use meter::{Meter, Pair, Place};
-use slots::slot::{Extent as Size, Node, Slot};
+use slots::slot::{Node, Slot};
 use std::alloc::{AllocError, Global};
 use std::test::Fail;
 use tree::ChunkTree;
@@ -23,15 +23,7 @@ const UNREAD: Reading = PairReading {
 };
 
 const UNUSED: Slot<Reading> = Slot {
-    node: Node {
-        left: None,
-        right: None,
-        extent: Size {
-            height: 0,
-            bytes: 0,
-            chunks: 0,
-        },
-    },
+    node: Node::ALONE,
     size: 0,
     next: None,
     own: UNREAD,

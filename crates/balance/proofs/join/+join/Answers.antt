@@ -1,11 +1,11 @@
-use Rattle.std.proofs.Common.{suc, ◌<◌, sym, subst, arith}
+use Rattle.std.proofs.Common.{suc, ◌<◌, sym, ◌∙◌, subst, arith}
 use Rattle.chunks.specs.declared.side.Side.{Side}
 use Rattle.chunks.specs.Tree.{height, Level}
 use Rattle.chunks.specs.Sides.{around}
 use Rattle.chunks.proofs.Sides.{root_around}
 use Rattle.slots.specs.Join.{Joined}
 use Rattle.slots.proofs.Turning.{ready_turned, joined_turned, joined_linked}
-use Rattle.slots.proofs.Rotating.{seen}
+use Rattle.slots.proofs.Rotating.{seen, steep_higher, steep_lower}
 use Rattle.slots.proofs.Joining.{height_held, down_ready, down_lower, down_grown, down_joined}
 use Rattle.balance.proofs.join.+join.Goals as goal
 
@@ -37,9 +37,9 @@ join-requires g t c κs within =
     let m = c.args.memory.now in
     let near = height_held m ready.roomy _ _ ready.near_root ready.near_holds in
     let far = height_held m ready.roomy _ _ ready.far_root ready.far_holds in
-    let higher = c.in-Some-top_if_higher.ensures _ _ ready.far_root ready.near_root ready.far_holds ready.near_holds in
+    let higher = steep_higher c.requires.1.0 c.requires.0 1 _ (c.top_if_higher-in_default.ensures _ _ ready.far_root ready.near_root ready.far_holds ready.near_holds) (sym c.is_some.ensures ∙ c.if-is_some.true) in
     let measured = c.decreases in
-    (omega (arith, higher.1), (within.0, (within.1, (c.requires.1.0, (c.requires.0, ready_turned _ _ _ _ _ _ ready)))))
+    (omega arith, (within.0, (within.1, (c.requires.1.0, (c.requires.0, ready_turned _ _ _ _ _ _ ready)))))
 
 pub returns-in-Some : goal.returns-in-Some
 returns-in-Some g t c a b ready =
@@ -52,17 +52,17 @@ returns-in-Some g t c a b ready =
     let done = c.settle.ensures v.o made.0 grown in
     (done.0, (done.1.0, down_joined μ _ ready v steep _ made.0 _ made.1.0 made.1.1 _ done.0 done.1.1))
 
-pub returns-in-Some-top_if_higher : goal.returns-in-Some-top_if_higher
-returns-in-Some-top_if_higher g t c a b ready =
+pub returns-then-is_some : goal.returns-then-is_some
+returns-then-is_some g t c a b ready =
     let μ = g.M.Meter.scale c.args.meter.now in
     let made = c.join.ensures b a (ready_turned _ _ _ _ _ _ ready) in
-    let turned = subst (λ (s : Side). Joined μ s c.args.memory.now b c.args.i a c.join.new.memory made.0) c.other-in-Some-top_if_higher.ensures made.1.1 in
+    let turned = subst (λ (s : Side). Joined μ s c.args.memory.now b c.args.i a c.join.new.memory made.0) c.other-then-is_some.ensures made.1.1 in
     (made.0, (made.1.0, joined_turned μ c.args.side _ a _ b _ made.0 turned))
 
-pub returns-in_default-top_if_higher : goal.returns-in_default-top_if_higher
-returns-in_default-top_if_higher g t c a b ready =
+pub returns-else-is_some : goal.returns-else-is_some
+returns-else-is_some g t c a b ready =
     let μ = g.M.Meter.scale c.args.meter.now in
     let near = c.in_default.ensures a b ready.near_root ready.far_root ready.near_holds ready.far_holds in
-    let far = c.in_default-top_if_higher.ensures b a ready.far_root ready.near_root ready.far_holds ready.near_holds in
-    let level : Level a b = record { left_low = omega (arith, near); right_low = omega (arith, far) } in
+    let far = steep_lower b a 1 _ (c.top_if_higher-in_default.ensures b a ready.far_root ready.near_root ready.far_holds ready.near_holds) (sym c.is_some.ensures ∙ c.if-is_some.false) in
+    let level : Level a b = record { left_low = omega (arith, near); right_low = omega arith } in
     (around c.args.side a c.args.i b, (sym (root_around c.args.side a _ b), joined_linked μ c.args.side _ a _ b _ (c.link_around.ensures a b ready level)))

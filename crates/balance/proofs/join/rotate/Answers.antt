@@ -10,7 +10,7 @@ pub top_if_higher-requires : goal.top_if_higher-requires
 top_if_higher-requires g c =
     let ready = c.requires.1.1.0 in
     let v = seen _ _ c.other.ensures _ _ _ c.child-outer.ensures c.child-inner.ensures _ ready.near_root ready.near_holds in
-    (ready.roomy, ((v.n, (v.inner_root, v.far)), (v.o, (v.outer_root, v.near))))
+    record { roomy = ready.roomy; tree = (v.n, (v.inner_root, v.far)); than = (v.o, (v.outer_root, v.near)) }
 
 pub rotate_twice-requires : goal.rotate_twice-requires
 rotate_twice-requires g c =

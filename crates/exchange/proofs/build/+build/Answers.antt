@@ -13,66 +13,66 @@ pub build-left-requires : goal.build-left-requires
 build-left-requires g t c κs within =
     let measured = c.decreases in
     let some = c.if-n-eq0.false in
-    let room = c.requires.0.1.1 in
-    let fits = c.requires.1.1 in
-    (omega arith, (within.0, (within.1, ((c.requires.0.0, (c.requires.0.1.0, omega arith)), (c.requires.1.0, omega arith)))))
+    let room = c.requires.idle.1.1 in
+    let fits = c.requires.within in
+    (omega arith, (within.0, (within.1, ((c.requires.idle.0, (c.requires.idle.1.0, omega arith)), omega arith))))
 
 pub returns-then-n-eq0 : goal.returns-then-n-eq0
 returns-then-n-eq0 g t c is idle enough =
     let μ = g.M.Meter.scale c.args.meter.now in
-    let P : ℕ → Type 0 = λ n. Built μ c.args.memory.now is n (part c.args.bytes.now c.args.count c.args.k n) c.args.memory.now leaf in
+    let P : ℕ → Type 0 = λ n. Built μ c.args.memory.now is n (part c.args.cut.now.bytes.now c.args.cut.now.count c.args.k n) c.args.memory.now leaf in
     (leaf, (refl, subst P (sym c.if-n-eq0.true) (built_none μ idle)))
 
 pub store_chunk-i-requires : goal.store_chunk-i-requires
 store_chunk-i-requires g t c =
     let μ = g.M.Meter.scale c.args.meter.now in
-    let q = c.args.count in
+    let q = c.args.cut.now.count in
     let k = c.args.k in
     let h = c.args.n / 2 in
     let r = c.args.n - h - 1 in
-    let is = c.requires.0.0 in
-    let idle = c.requires.0.1.0 in
-    let room = c.requires.0.1.1 in
+    let is = c.requires.idle.0 in
+    let idle = c.requires.idle.1.0 in
+    let room = c.requires.idle.1.1 in
     let enough : h + suc r ≤ length is = omega arith in
     let left = c.build-left.ensures is idle (omega arith) in
     let second = second_idle μ idle h r enough left.1.1 in
-    let fits = subst Chunk (sym c.chunk.ensures) (chunk_fits c.args.bytes.now q c.requires.1.0 (k + h) (omega arith)) in
-    ((_, (_, second)), fits)
+    let fits = c.chunk.ensures.fits in
+    record { idle = (_, (_, second)); fits = fits }
 
 pub build-right-requires : goal.build-right-requires
 build-right-requires g t c κs within =
     let μ = g.M.Meter.scale c.args.meter.now in
-    let q = c.args.count in
+    let q = c.args.cut.now.count in
     let k = c.args.k in
     let h = c.args.n / 2 in
     let r = c.args.n - h - 1 in
-    let is = c.requires.0.0 in
-    let idle = c.requires.0.1.0 in
-    let room = c.requires.0.1.1 in
+    let is = c.requires.idle.0 in
+    let idle = c.requires.idle.1.0 in
+    let room = c.requires.idle.1.1 in
     let enough : h + suc r ≤ length is = omega arith in
     let left = c.build-left.ensures is idle (omega arith) in
     let second = second_idle μ idle h r enough left.1.1 in
-    let fits = subst Chunk (sym c.chunk.ensures) (chunk_fits c.args.bytes.now q c.requires.1.0 (k + h) (omega arith)) in
+    let fits = c.chunk.ensures.fits in
     let own = c.store_chunk-i.ensures _ _ second in
     let third = third_idle μ idle h r enough left.1.1 fits own.1 in
     let measured = c.decreases in
-    let bound = c.requires.1.1 in
-    (omega arith, (within.0, (within.1, ((_, third), (c.requires.1.0, omega arith)))))
+    let bound = c.requires.within in
+    (omega arith, (within.0, (within.1, ((_, third), omega arith))))
 
 pub join-requires : goal.join-requires
 join-requires g t c =
     let μ = g.M.Meter.scale c.args.meter.now in
-    let q = c.args.count in
+    let q = c.args.cut.now.count in
     let k = c.args.k in
     let h = c.args.n / 2 in
     let r = c.args.n - h - 1 in
-    let is = c.requires.0.0 in
-    let idle = c.requires.0.1.0 in
-    let room = c.requires.0.1.1 in
+    let is = c.requires.idle.0 in
+    let idle = c.requires.idle.1.0 in
+    let room = c.requires.idle.1.1 in
     let enough : h + suc r ≤ length is = omega arith in
     let left = c.build-left.ensures is idle (omega arith) in
     let second = second_idle μ idle h r enough left.1.1 in
-    let fits = subst Chunk (sym c.chunk.ensures) (chunk_fits c.args.bytes.now q c.requires.1.0 (k + h) (omega arith)) in
+    let fits = c.chunk.ensures.fits in
     let own = c.store_chunk-i.ensures _ _ second in
     let third = third_idle μ idle h r enough left.1.1 fits own.1 in
     let right = c.build-right.ensures _ third.0 third.1 in
@@ -83,7 +83,7 @@ join-requires g t c =
 pub returns : goal.returns
 returns g t c is idle room =
     let μ = g.M.Meter.scale c.args.meter.now in
-    let q = c.args.count in
+    let q = c.args.cut.now.count in
     let k = c.args.k in
     let h = c.args.n / 2 in
     let r = c.args.n - h - 1 in
@@ -91,7 +91,7 @@ returns g t c is idle room =
     let enough : h + suc r ≤ length is = omega arith in
     let left = c.build-left.ensures is idle (omega arith) in
     let second = second_idle μ idle h r enough left.1.1 in
-    let fits = subst Chunk (sym c.chunk.ensures) (chunk_fits c.args.bytes.now q c.requires.1.0 (k + h) (omega arith)) in
+    let fits = c.chunk.ensures.fits in
     let own = c.store_chunk-i.ensures _ _ second in
     let third = third_idle μ idle h r enough left.1.1 fits own.1 in
     let right = c.build-right.ensures _ third.0 third.1 in
@@ -101,7 +101,7 @@ returns g t c is idle room =
     let done = c.join.ensures left.0 right.0 at in
     let joined = subst (λ n. Joined μ Left c.build-right.new.memory left.0 n right.0 c.join.new.memory done.0) i-is done.1.1 in
     let built = built_joined μ idle h r enough left.1.1 fits own.1 right.1.1 joined in
-    let bytes = c.args.bytes.now in
-    let chunks = parts_joined bytes q k h r c.args.n c.chunk.result.now c.chunk.ensures sum in
+    let bytes = c.args.cut.now.bytes.now in
+    let chunks = parts_joined bytes q k h r c.args.n c.chunk.result.now c.chunk.ensures.bytes sum in
     let P : ℕ → List (List ℕ) → Type 0 = λ n cs. Built μ c.args.memory.now is n cs c.join.new.memory done.0 in
     (done.0, (done.1.0, subst (P c.args.n) chunks (subst (λ n. P n (part bytes q k h ++ (c.chunk.result.now ∷ part bytes q (k + h + 1) r))) (sym sum) built)))

@@ -5,11 +5,11 @@ use Rattle.exchange.proofs.build.begin.Goals as goal
 
 pub overflow_mul-result : goal.overflow_mul-result
 unfolding begin
-overflow_mul-result c = omega (arith, begin_within c.args.bytes c.args.count c.args.k c.requires.0 c.requires.1)
+overflow_mul-result c = omega (arith, begin_within c.args.bytes c.args.count c.args.k c.requires.some c.requires.within)
 
 pub overflow_add-result : goal.overflow_add-result
 unfolding begin
-overflow_add-result c = omega (arith, begin_within c.args.bytes c.args.count c.args.k c.requires.0 c.requires.1)
+overflow_add-result c = omega (arith, begin_within c.args.bytes c.args.count c.args.k c.requires.some c.requires.within)
 
 pub returns : goal.returns
 unfolding begin

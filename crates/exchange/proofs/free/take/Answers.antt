@@ -6,6 +6,6 @@ pub next-memory-requires : goal.next-memory-requires
 next-memory-requires g c =
     let idle = c.requires.1.1 in
     let free = idle.stack.0 in
-    let found = c.in-Some.is in
-    let same : c.requires.0 ≡ c.in-Some.i = cc in
+    let found = c.unwrap-i.ensures in
+    let same : c.requires.0 ≡ c.unwrap-i.result = cc in
     (idle.roomy, subst (λ n. n < c.args.memory.now.usable) same (first_below c.args.memory.now.usable c.requires.0 c.requires.1.0 idle.once))

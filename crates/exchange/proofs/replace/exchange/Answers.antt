@@ -3,7 +3,7 @@ use Rattle.slots.proofs.Exchanging.{enough_free, exchanged_chunks, exchanged_kep
 use Rattle.exchange.proofs.replace.exchange.Goals as goal
 
 pub remove-first-requires : goal.remove-first-requires
-remove-first-requires g c = ((_, (_, whole_sound _ _ c.requires.0)), c.requires.1.0)
+remove-first-requires g c = record { whole = (_, (_, whole_sound _ _ c.requires.0)); order = c.requires.1.0 }
 
 pub insert-requires : goal.insert-requires
 insert-requires g c =

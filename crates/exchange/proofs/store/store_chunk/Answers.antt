@@ -6,13 +6,14 @@ use Rattle.exchange.proofs.store.store_chunk.Goals as goal
 
 pub write-requires : goal.write-requires
 write-requires g c =
-    let i = c.requires.0.0 in
-    let idle = c.requires.0.1.1 in
+    let i = c.requires.idle.0 in
+    let idle = c.requires.idle.1.1 in
     let took = c.take-i.ensures in
     let first = took.first i _ idle in
     let u = took.usable in
     let known = first_below c.args.memory.now.usable i _ idle.once in
-    (roomy_elsewhere _ _ (λ j. 0) (elsewhere_stack _ _ (λ j. 0) took.slots took.store took.readings took.usable) idle.roomy, (omega arith, c.requires.1))
+    let roomy = roomy_elsewhere _ _ (λ j. 0) (elsewhere_stack _ _ (λ j. 0) took.slots took.store took.readings took.usable) idle.roomy in
+    record { usable = (roomy, omega arith); fits = c.requires.fits }
 
 pub returns : goal.returns
 returns g c i is idle =

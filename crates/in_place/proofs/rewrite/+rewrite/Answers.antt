@@ -12,14 +12,14 @@ pub returns-then-end-from : goal.returns-then-end-from
 returns-then-end-from g t c tree held =
     let all = ap (λ (x : Extent). x.chunks) (c.extent-all.ensures tree (sym c.in-Some.is ∙ held.root_is) held.holds) in
     let μ = g.M.Meter.scale c.args.meter.now in
-    let q = c.args.count in
+    let q = c.args.cut.now.count in
     let from = c.args.from in
     let n = c.args.n in
-    rewritten_not μ tree n c.args.bytes.now q from (from + q) (subst (λ k. (n + k ≤ from) ⊎ ((from < n + k) × (from + q ≤ n))) all c.then-end-from.either)
+    rewritten_not μ tree n c.args.cut.now.bytes.now q from (from + q) (subst (λ k. (n + k ≤ from) ⊎ ((from < n + k) × (from + q ≤ n))) all c.then-end-from.either)
 
 pub extent-requires : goal.extent-requires
 extent-requires g t c =
-    let held = c.requires.0.1.0 in
+    let held = c.requires.held.1.0 in
     let v = sides c.in-Some.is held in
     let top = v.1.1.1 in
     let left = held_left top _ (c.child-left.ensures _ _ top.holds) in
@@ -28,8 +28,8 @@ extent-requires g t c =
 
 pub rewrite-requires : goal.rewrite-requires
 rewrite-requires g t c κs within =
-    let held = c.requires.0.1.0 in
-    let bound = c.requires.0.1.1 in
+    let held = c.requires.held.1.0 in
+    let bound = c.requires.held.1.1 in
     let v = sides c.in-Some.is held in
     let top = v.1.1.1 in
     let left = held_left top _ (c.child-left.ensures _ _ top.holds) in
@@ -40,39 +40,39 @@ rewrite-requires g t c κs within =
     let lower = node_higher v.1.1.0 in
     let measured = c.decreases in
     let part = height_held m held.roomy _ _ left.root_is left.holds in
-    (omega (arith, lower.0), (within.0, (within.1, ((_, (left, omega arith)), c.requires.1))))
+    (omega (arith, lower.0), (within.0, (within.1, ((_, (left, omega arith)), c.requires.few_chunks))))
 
 pub renew-requires : goal.renew-requires
 renew-requires g t c =
-    let held = c.requires.0.1.0 in
-    let bound = c.requires.0.1.1 in
+    let held = c.requires.held.1.0 in
+    let bound = c.requires.held.1.1 in
     let v = sides c.in-Some.is held in
     let top = v.1.1.1 in
     let left = held_left top _ (c.child-left.ensures _ _ top.holds) in
     let right-root = c.child-right.ensures _ _ top.holds in
     let long = ap (λ (z : Tree). length (slots z)) v.1.1.0 ∙ length-append (slots v.0) (c.in-Some.i ∷ slots v.1.0) in
     let μ = g.M.Meter.scale c.args.meter.now in
-    let q = c.args.count in
+    let q = c.args.cut.now.count in
     let from = c.args.from in
-    let bytes = c.args.bytes.now in
+    let bytes = c.args.cut.now.bytes.now in
     let first = c.rewrite.ensures _ left in
     let own = own_ready μ top c.args.n bytes q from (from + q) first in
-    let far = c.requires.1.1 in
-    record { roomy = (own.0, (own.1.0, own.1.1)); count_value = (c.requires.1.0, omega arith) }
+    let far = c.requires.few_chunks in
+    record { usable = (own.0, own.1.0); some_byte = own.1.1.0; few_bytes = own.1.1.1; few_chunks = omega arith }
 
 pub rewrite-requires-2 : goal.rewrite-requires-2
 rewrite-requires-2 g t c κs within =
-    let held = c.requires.0.1.0 in
-    let bound = c.requires.0.1.1 in
+    let held = c.requires.held.1.0 in
+    let bound = c.requires.held.1.1 in
     let v = sides c.in-Some.is held in
     let top = v.1.1.1 in
     let left = held_left top _ (c.child-left.ensures _ _ top.holds) in
     let right-root = c.child-right.ensures _ _ top.holds in
     let long = ap (λ (z : Tree). length (slots z)) v.1.1.0 ∙ length-append (slots v.0) (c.in-Some.i ∷ slots v.1.0) in
     let μ = g.M.Meter.scale c.args.meter.now in
-    let q = c.args.count in
+    let q = c.args.cut.now.count in
     let from = c.args.from in
-    let bytes = c.args.bytes.now in
+    let bytes = c.args.cut.now.bytes.now in
     let at_long = ap (λ (x : Extent). x.chunks) (c.extent.ensures _ left.root_is left.holds) in
     let first = c.rewrite.ensures _ left in
     let second = c.renew.ensures in
@@ -82,21 +82,21 @@ rewrite-requires-2 g t c κs within =
     let lower = node_higher v.1.1.0 in
     let measured = c.decreases in
     let part = height_held _ right.roomy _ _ right.root_is right.holds in
-    (omega (arith, lower.1), (within.0, (within.1, ((_, (right, omega arith)), c.requires.1))))
+    (omega (arith, lower.1), (within.0, (within.1, ((_, (right, omega arith)), c.requires.few_chunks))))
 
 pub link-requires : goal.link-requires
 link-requires g t c =
-    let held = c.requires.0.1.0 in
-    let bound = c.requires.0.1.1 in
+    let held = c.requires.held.1.0 in
+    let bound = c.requires.held.1.1 in
     let v = sides c.in-Some.is held in
     let top = v.1.1.1 in
     let left = held_left top _ (c.child-left.ensures _ _ top.holds) in
     let right-root = c.child-right.ensures _ _ top.holds in
     let long = ap (λ (z : Tree). length (slots z)) v.1.1.0 ∙ length-append (slots v.0) (c.in-Some.i ∷ slots v.1.0) in
     let μ = g.M.Meter.scale c.args.meter.now in
-    let q = c.args.count in
+    let q = c.args.cut.now.count in
     let from = c.args.from in
-    let bytes = c.args.bytes.now in
+    let bytes = c.args.cut.now.bytes.now in
     let first = c.rewrite.ensures _ left in
     let second = c.renew.ensures in
     let right = right_held μ top c.args.n bytes q from (from + q) first _ second _ right-root in
@@ -111,9 +111,9 @@ returns g t c tree held =
     let left = held_left top _ (c.child-left.ensures _ _ top.holds) in
     let right-root = c.child-right.ensures _ _ top.holds in
     let μ = g.M.Meter.scale c.args.meter.now in
-    let q = c.args.count in
+    let q = c.args.cut.now.count in
     let from = c.args.from in
-    let bytes = c.args.bytes.now in
+    let bytes = c.args.cut.now.bytes.now in
     let at_long = ap (λ (x : Extent). x.chunks) (c.extent.ensures _ left.root_is left.holds) in
     let first = c.rewrite.ensures _ left in
     let second = c.renew.ensures in

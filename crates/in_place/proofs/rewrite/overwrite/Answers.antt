@@ -1,7 +1,6 @@
-use Rattle.std.proofs.Common.{◌≡◌, ◌+◌, length, subst, arith}
+use Rattle.std.proofs.Common.{ℕ, ◌+◌, length, ap, subst, arith}
 use Rattle.std.proofs.lemmas.List.{length-map}
 use Rattle.chunks.specs.Tree.{slots}
-use Rattle.chunks.specs.Cut.{needed}
 use Rattle.slots.specs.View.{chunk_of}
 use Rattle.slots.specs.Sound.{tree_of}
 use Rattle.slots.specs.Rewrite.{Rewritten}
@@ -16,10 +15,11 @@ rewrite-requires g c =
     let m = c.args.memory.now in
     let held = held_whole (whole_sound _ _ c.requires.0) in
     let within = c.requires.1 in
-    let count = c.div_ceil-count.ensures in
+    let cut = c.of-cut.ensures in
+    let size = ap (length {A = ℕ}) cut.bytes in
     let few = slots_few held in
     let long = length-map (slots (tree_of m c.args.link)) (chunk_of m) in
-    ((_, (held, omega arith)), (omega arith, omega arith))
+    record { held = (_, (held, omega arith)); few_chunks = omega arith }
 
 pub returns : goal.returns
 returns g c =
@@ -29,8 +29,10 @@ returns g c =
     let from = c.args.from in
     let t = tree_of m c.args.link in
     let whole = whole_sound _ _ c.requires.0 in
-    let count : c.div_ceil-count.result ≡ needed (length bytes) = omega (arith, c.div_ceil-count.ensures) in
-    let done = subst (λ q. Rewritten μ m t 0 bytes q from (from + q) c.rewrite.new.memory) count (c.rewrite.ensures t (held_whole whole)) in
+    let cut = c.of-cut.ensures in
+    let made = c.rewrite.ensures t (held_whole whole) in
+    let made_of = subst (λ bs. Rewritten μ m t 0 bs c.of-cut.result.count from (from + c.of-cut.result.count) c.rewrite.new.memory) cut.bytes made in
+    let done = subst (λ q. Rewritten μ m t 0 bytes q from (from + q) c.rewrite.new.memory) cut.count made_of in
     record {
       sound = sound_whole (overwritten_whole μ t whole bytes from c.requires.1 done);
       chunks = overwritten_chunks μ t whole bytes from c.requires.1 done;
