@@ -7,3 +7,4 @@ pub mod copy;
 pub mod question;
 pub mod range;
 pub mod same;
+pub mod subtree;

@@ -1,0 +1,3 @@
+pub mod Leads
+pub mod Under
+pub mod Parted
