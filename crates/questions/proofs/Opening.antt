@@ -1,7 +1,8 @@
 -- A subtree taken apart at its top slot: what memory says there of its sides, its chunk and its readings.
 use Rattle.std.proofs.Common.{◌≡◌, ℕ, ◌+◌, ◌-◌, ◌*◌, ◌<◌, ◌≤◌, [], ◌∷◌, ◌++◌, length, take, drop, get_or, Some, None, Option, sym, ap, ◌∙◌, subst, arith}
+use Rattle.std.proofs.lemmas.List.{length-map}
 use Rattle.measure.specs.Measure.{Measure, reading}
-use Rattle.chunks.specs.Tree.{Tree, node, root, height}
+use Rattle.chunks.specs.Tree.{Tree, node, slots, height}
 use Rattle.chunks.proofs.Sides.{leaf_if_none}
 use Rattle.slots.specs.declared.memory.Memory.{Memory}
 use Rattle.slots.specs.declared.slot.Slot.{Slot}
@@ -12,7 +13,7 @@ use Rattle.slots.specs.Sound.{tree_of, chunks_in, Kept}
 use Rattle.slots.specs.View.{size_of, chunk_of, chunks_of, text_of}
 use Rattle.slots.proofs.Joining.{node_higher}
 use Rattle.slots.proofs.Reading.{read_is, held_read, held_kept}
-use Rattle.slots.proofs.Rangewise.{kept_top}
+use Rattle.slots.proofs.Rangewise.{kept_top, slots_few}
 use Rattle.slots.proofs.Splitting.{sides, held_left, held_right}
 use Rattle.slots.proofs.Text.{chunks_node, chunk_length, size_read}
 use Rattle.questions.specs.Leads.{Leads}
@@ -40,6 +41,7 @@ pub record Top {R : Type 0} (m : Memory R) (link : Option ℕ) (i : ℕ) (s : Sl
   pub left_leads : Leads m s.node.left
   pub right_leads : Leads m s.node.right
   pub chunks : chunks_in m link ≡ chunks_in m s.node.left ++ (chunk_of m i ∷ chunks_in m s.node.right)
+  pub few : length (chunks_in m link) ≤ 4096
   pub left_lower : height (tree_of m s.node.left) < height (tree_of m link)
   pub right_lower : height (tree_of m s.node.right) < height (tree_of m link)
   pub left_keeps : (μ : Measure R) → Kept μ m link → Kept μ m s.node.left
@@ -80,6 +82,7 @@ top {R} {m} {link} {i} leads is s s-is =
           ∙ chunks_node m l i r
           ∙ ap (λ (z : Tree). chunks_of m z ++ (chunk_of m i ∷ chunks_of m r)) (sym left-is)
           ∙ ap (λ (z : Tree). chunks_in m s.node.left ++ (chunk_of m i ∷ chunks_of m z)) (sym right-is);
+      few = omega (arith, length-map (slots (tree_of m link)) (chunk_of m), slots_few held);
       left_lower = omega (arith, ap height left-is, higher.0);
       right_lower = omega (arith, ap height right-is, higher.1);
       left_keeps = λ μ k. subst (λ (z : Tree). Holds (kept μ) m z) (sym left-is) (opened μ k).1.0;

@@ -9,6 +9,7 @@ use Rattle.questions.specs.Under.{tree_under, chunks_under, text_under, KeptUnde
 
 pub record Apart {R : Type 0} (s : Subtree R) (p : Parts R) : Type 0 where
   pub chunks : chunks_under s ≡ chunks_under p.left ++ (p.chunk.now ∷ chunks_under p.right)
+  pub few : length (chunks_under s) ≤ 4096
   pub left_lower : height (tree_under p.left) < height (tree_under s)
   pub right_lower : height (tree_under p.right) < height (tree_under s)
   pub some_byte : 1 ≤ length p.chunk.now

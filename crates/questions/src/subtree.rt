@@ -1,10 +1,14 @@
-// A tree that memory holds, or a part of one: a link that leads to it. Its calls ask nothing.
+// A tree that memory holds, or a part of one: a link that leads to it. Its calls ask nothing of memory.
 ghost use Rattle.questions.specs.Leads.{Leads};
 
 use slots::memory::Memory;
 use std::alloc::AllocError;
 
-pub mod asked;
+pub mod copying;
+pub mod opening;
+pub mod ranges;
+pub mod same;
+pub mod spots;
 
 pub struct Subtree<'m, 'a, R> {
     memory: &'m Memory<'a, R>,
@@ -20,7 +24,8 @@ impl<R> Clone for Subtree<'_, '_, R> {
     }
 }
 
-// What a subtree's top slot has on its left, in its own chunk, and on its right; and the reading kept of that chunk.
+// What the top slot of a subtree has on its left, in its own chunk, and on its right; and the reading kept of that chunk.
+#[derive(Drop)]
 pub struct Parts<'m, 'a, R> {
     pub left: Subtree<'m, 'a, R>,
     pub chunk: &'m [u8],

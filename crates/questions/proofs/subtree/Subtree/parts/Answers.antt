@@ -26,6 +26,7 @@ returns g c =
     let chunk-is = sym t.chunk_is in
     record {
       chunks = t.chunks ∙ ap (λ (l : List ℕ). chunks_in m left ++ (l ∷ chunks_in m right)) chunk-is;
+      few = t.few;
       left_lower = t.left_lower;
       right_lower = t.right_lower;
       some_byte = omega (arith, ap length chunk-is, t.chunk_long, t.some_byte);
