@@ -4,7 +4,7 @@ use Rattle.std.proofs.lemmas.List.{length-append, take-append-drop, take_at, dro
 use Rattle.std.proofs.lemmas.Bool.{cases_lt}
 use Rattle.std.specs.List.{AllByRecursion as All}
 use Rattle.chunks.specs.Cut.{joined, Chunk}
-use Rattle.chunks.specs.SizedSpot.{sized_spot_in, sized_shifted}
+use Rattle.chunks.specs.SizedSpot.{sized_spot_in}
 use Rattle.chunks.specs.declared.sized_spot.SizedSpot.{SizedSpot}
 use Rattle.chunks.proofs.SizedSpotting.{sized_here, sized_behind}
 
@@ -53,7 +53,7 @@ spotted_first c cs p h = record {
   ends = omega (arith, length-append c []);
 }
 
-spotted_later : (c : List ℕ) (cs : List (List ℕ)) (p : ℕ) → length c ≤ p → (s : SizedSpot) → Spotted cs (p - length c) s → Spotted (c ∷ cs) p (sized_shifted 1 s)
+spotted_later : (c : List ℕ) (cs : List (List ℕ)) (p : ℕ) → length c ≤ p → (s : SizedSpot) → Spotted cs (p - length c) s → Spotted (c ∷ cs) p (record { chunk = 1 + s.chunk; inside = s.inside; size = s.size })
 spotted_later c cs p h s at =
     let one : (n : ℕ) → start (c ∷ cs) (suc n) ≡ length c + start cs n = λ n. length-append c (joined (take n cs)) in
     let first : 1 + s.chunk ≡ suc s.chunk = omega arith in

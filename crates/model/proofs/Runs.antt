@@ -3,7 +3,7 @@ use Rattle.std.proofs.Common.{◌≡◌, ℕ, ◌+◌, ◌-◌, ◌<◌, ◌≤�
 use Rattle.std.specs.List.{AllByRecursion as All}
 use Rattle.std.proofs.lemmas.Bool.{cases_lt, cond-true, cond-false, cond_both, ltb-true, lt-ltb, le-ltb, eqb-true, eqb-false, leb-true, and_parts}
 use Rattle.chunks.specs.Cut.{joined, Chunk}
-use Rattle.chunks.specs.SizedSpot.{sized_spot_in}
+use Rattle.chunks.specs.Spot.{spot_in}
 use Rattle.chunks.proofs.Joined.{start, start_within, start_monotone, start_step, spotted, spots_ordered, spot_small}
 use Rattle.model.specs.declared.run.Run.{Run}
 use Rattle.model.specs.Edit.{run_of, first_byte, last_byte, touched, middle_length, few, with_neighbour, affected}
@@ -41,7 +41,7 @@ module _ (chunks : List (List ℕ)) (from to : ℕ) (forward : from ≤ to) (ins
       record { ordered = omega arith; within = omega arith; low_before = omega arith; high_behind = omega arith; low_near = omega arith; high_near = omega arith })
       (cases_lt from to)
 
-  pub covers_spots : (low high : ℕ) → Told low high → Covers chunks from to (run_of chunks (sized_spot_in chunks low).chunk ((sized_spot_in chunks high).chunk + 1))
+  pub covers_spots : (low high : ℕ) → Told low high → Covers chunks from to (run_of chunks (spot_in chunks low).chunk ((spot_in chunks high).chunk + 1))
   covers_spots low high t =
       let s = spotted chunks low (omega (arith, t.ordered, t.within)) in
       let e = spotted chunks high t.within in
@@ -56,7 +56,7 @@ module _ (chunks : List (List ℕ)) (from to : ℕ) (forward : from ≤ to) (ins
   pub covers_touched : Covers chunks from to (touched chunks from to)
   unfolding touched
   covers_touched =
-      cond_both (eqb (length (joined chunks)) 0) (run_of chunks 0 0) (run_of chunks (sized_spot_in chunks (first_byte from to)).chunk ((sized_spot_in chunks (last_byte from to)).chunk + 1)) (Covers chunks from to)
+      cond_both (eqb (length (joined chunks)) 0) (run_of chunks 0 0) (run_of chunks (spot_in chunks (first_byte from to)).chunk ((spot_in chunks (last_byte from to)).chunk + 1)) (Covers chunks from to)
       (λ e. let none = eqb-true (length (joined chunks)) 0 e in covers_run chunks from to 0 0 (omega arith) (omega arith) (omega arith) (omega arith))
       (λ e. let some = eqb-false (length (joined chunks)) 0 e in covers_spots _ _ (told (omega arith)))
 
@@ -87,7 +87,7 @@ module _ (chunks : List (List ℕ)) (from to : ℕ) (forward : from ≤ to) (ins
     unfolding touched
     short_touched =
         let c = covers_touched in
-        cond_both (eqb (length (joined chunks)) 0) (run_of chunks 0 0) (run_of chunks (sized_spot_in chunks (first_byte from to)).chunk ((sized_spot_in chunks (last_byte from to)).chunk + 1)) (λ run. middle_length run from to count ≤ count + 128)
+        cond_both (eqb (length (joined chunks)) 0) (run_of chunks 0 0) (run_of chunks (spot_in chunks (first_byte from to)).chunk ((spot_in chunks (last_byte from to)).chunk + 1)) (λ run. middle_length run from to count ≤ count + 128)
         (λ e. let none = eqb-true (length (joined chunks)) 0 e in omega arith)
         (λ e. let some = eqb-false (length (joined chunks)) 0 e in
         let t = told (omega arith) in

@@ -2,7 +2,7 @@
 use Rattle.std.specs.Prelude.{ℕ, ◌+◌, ◌-◌, Bool, cond, ◌&&◌, List, ◌++◌, length, take, drop, ◌==◌, nat_le, nat_lt}
 use Rattle.std.specs.List.{between}
 use Rattle.chunks.specs.Cut.{joined, cut, replaced}
-use Rattle.chunks.specs.SizedSpot.{sized_spot_in}
+use Rattle.chunks.specs.Spot.{spot_in}
 use Rattle.model.specs.declared.run.Run.{Run}
 
 abbrev pub edited_text : List ℕ → ℕ → ℕ → List ℕ → List ℕ
@@ -29,7 +29,7 @@ last_byte from to = cond (nat_lt from to) (to - 1) (from - 1)
 unfoldable pub touched : List (List ℕ) → ℕ → ℕ → Run
 touched chunks from to =
     cond (length (joined chunks) == 0) (run_of chunks 0 0)
-    (run_of chunks (sized_spot_in chunks (first_byte from to)).chunk ((sized_spot_in chunks (last_byte from to)).chunk + 1))
+    (run_of chunks (spot_in chunks (first_byte from to)).chunk ((spot_in chunks (last_byte from to)).chunk + 1))
 
 -- How many bytes come in the place of a run: what is left of its chunks, and the new bytes.
 abbrev pub middle_length : Run → ℕ → ℕ → ℕ → ℕ

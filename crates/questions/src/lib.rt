@@ -1,9 +1,7 @@
 // Questions about the tree that memory holds: its size, where a place lies, ranges of bytes read, copied and compared.
-// Each function asks that memory holds a tree; the crate `tree` wraps them so that no call asks anything.
+// A subtree is a value whose type says that memory holds it, so that its calls ask nothing of memory.
 
 #![tactic(auto)]
 
-pub mod copy;
-pub mod question;
-pub mod range;
-pub mod same;
+pub mod span;
+pub mod subtree;

@@ -1,3 +1,3 @@
-pub mod Kept
+pub mod Found
 pub mod Descent
 pub mod Ascent

@@ -8,3 +8,4 @@ pub mod seek_back;
 pub mod seek_bytes;
 pub mod seek_bytes_back;
 pub mod seek_tree;
+pub(crate) mod stops;

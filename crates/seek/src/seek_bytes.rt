@@ -3,6 +3,7 @@ ghost use Rattle.std.specs.Prelude.{◌≡◌};
 ghost use Rattle.search.specs.Forwards.{stop};
 
 use crate::forward::Forward;
+use crate::stops::ran_through;
 use search::stop::Stop;
 
 // Where the search comes to in the bytes.
@@ -22,9 +23,5 @@ pub fn seek_bytes<S: Forward>(search: &S, at: S::At, bytes: &[u8]) -> Stop<S::At
             }
         }
     }
-    Stop {
-        passed: bytes.len(),
-        at: now_at,
-        stopped: false,
-    }
+    ran_through(bytes.len(), now_at)
 }

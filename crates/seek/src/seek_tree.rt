@@ -1,156 +1,64 @@
 // A search through the text of a tree: over whole subtrees by their readings, and inside only where it may stop.
-ghost use Rattle.std.specs.Prelude.{◌≡◌, ℕ, ◌+◌, ◌^◌, ◌<◌, ◌≤◌, false, List, length, drop, slice_index_or};
+ghost use Rattle.std.specs.Prelude.{◌≡◌, ◌≤◌, length, drop};
 ghost use Rattle.measure.specs.Measure.{reading as reading_of};
-ghost use Rattle.seek.specs.Passes.{Passes};
-ghost use Rattle.chunks.specs.Tree.{Tree};
-ghost use Rattle.search.specs.Forwards.{stop, shifted};
-ghost use Rattle.slots.specs.Claim.{kept};
-ghost use Rattle.slots.specs.Holds.{Holds, Owned};
-ghost use Rattle.slots.specs.Sound.{Sound, Kept, tree_of};
-ghost use Rattle.slots.specs.Split.{Held};
-ghost use Rattle.slots.specs.View.{chunk_of, size_of, text_of, Roomy};
+ghost use Rattle.search.specs.Forwards.{stop};
+ghost use Rattle.questions.specs.Under.{text_under, KeptUnder};
 
 use crate::forward::Forward;
 use crate::seek_bytes::seek_bytes;
-use balance::join::child;
-use balance::link::extent;
-use chunks::Side;
-use questions::question::chunk_length;
+use crate::stops::{further, ran_through};
+use questions::subtree::Subtree;
 use search::stop::Stop;
-use slots::memory::Memory;
 
-// The same stop, `by` bytes further on.
-pub(crate) fn further<A: Copy>(by: usize, stop: Stop<A>) -> Stop<A>
-    requires { by + stop.passed < 2 ^ 64 }
-    ensures { result ≡ shifted by stop }
-{
-    Stop {
-        passed: by + stop.passed,
-        at: stop.at,
-        stopped: stop.stopped,
-    }
-}
-
-// The bytes of a slot's chunk.
-pub fn chunk<'m, R: Copy>(memory: &'m Memory<R>, i: u16) -> &'m [u8]
-    requires { (Roomy memory.now) × ((i < memory.now.usable) × (size_of memory.now i ≤ 64)) }
-    ensures { result.now ≡ chunk_of memory.now i }
-{
-    let to = 64 * i as usize + chunk_length(memory, i) as usize;
-    let store = &*memory.store;
-    &store[64 * i as usize..to]
-}
-
-// Nothing to run through.
-pub(crate) fn nowhere<A: Copy>(at: A) -> Stop<A>
-    ensures { result ≡ record { passed = 0; at = at; stopped = false } }
-{
-    Stop {
-        passed: 0,
-        at,
-        stopped: false,
-    }
-}
-
-// Where the search comes to in a slot's own chunk, from a place in it on: by the chunk's reading, where all of it is asked for.
-fn seek_own<R: Copy, S: Forward<Reading = R>>(
+// Where the search comes to in a chunk, from a place in it on: by the chunk's reading, where all of it is asked for.
+fn seek_chunk<S: Forward>(
     search: &S,
-    memory: &Memory<R>,
-    i: u16,
+    chunk: &[u8],
+    kept: &S::Reading,
     place: usize,
     at: S::At,
 ) -> Stop<S::At>
-    requires { (Roomy memory.now) × ((i < memory.now.usable) × (size_of memory.now i ≤ 64)) }
-    ensures within { result.passed ≤ length (drop place (chunk_of memory.now i)) }
-    ensures finds { Owned (kept (S.scale search.now)) memory.now i → result ≡ stop (S.goes search.now) at (drop place (chunk_of memory.now i)) }
+    ensures within { result.passed ≤ length (drop place chunk.now) }
+    ensures finds { kept.now ≡ reading_of (S.scale search.now) chunk.now → result ≡ stop (S.goes search.now) at (drop place chunk.now) }
 {
-    let bytes = chunk(memory, i);
-    if place == 0 {
-        let slots = &*memory.slots;
-        if let Some(behind) = search.pass(at, &slots[i as usize].own) {
-            return Stop {
-                passed: bytes.len(),
-                at: behind,
-                stopped: false,
-            };
-        }
+    if place == 0 && let Some(behind) = search.pass(at, kept) {
+        return ran_through(chunk.len(), behind);
     }
-    let from = place.min(bytes.len());
-    seek_bytes(search, at, &bytes[from..])
-}
-
-// What one look at the reading of all that lies under slot `i` says, where the search begins with its first byte.
-fn pass_under<R: Copy, S: Forward<Reading = R>>(
-    search: &S,
-    memory: &Memory<R>,
-    i: u16,
-    place: usize,
-    at: S::At,
-) -> Option<S::At>
-    requires { (Roomy memory.now) × (i < memory.now.usable) }
-    ensures { (text : List ℕ) → ((d : R) → slice_index_or memory.now.readings.now i d ≡ reading_of (S.scale search.now) text) → Passes (S.goes search.now) at (drop place text) result }
-{
-    if place > 0 {
-        return None;
-    }
-    let readings = &*memory.readings;
-    search.pass(at, &readings[i as usize])
+    let from = place.min(chunk.len());
+    seek_bytes(search, at, &chunk[from..])
 }
 
 // Where the search comes to in the text of a tree, from a place on.
-pub fn seek_from<R: Copy, S: Forward<Reading = R>>(
+pub fn seek<S: Forward>(
     search: &S,
-    memory: &Memory<R>,
-    link: Option<u16>,
+    tree: Subtree<'_, '_, S::Reading>,
     place: usize,
     at: S::At,
 ) -> Stop<S::At>
-    requires { (t : Tree) × Held memory.now link t }
-    ensures within { (t : Tree) → Held memory.now link t → result.passed ≤ length (drop place (text_of memory.now t)) }
-    ensures finds { (t : Tree) → Held memory.now link t → Holds (kept (S.scale search.now)) memory.now t → result ≡ stop (S.goes search.now) at (drop place (text_of memory.now t)) }
+    ensures within { result.passed ≤ length (drop place (text_under tree.entry)) }
+    ensures finds { KeptUnder tree.entry (S.scale search.now) → result ≡ stop (S.goes search.now) at (drop place (text_under tree.entry)) }
 {
-    let bytes = extent(memory, link).bytes as usize;
-    let Some(i) = link else {
-        return nowhere(at);
-    };
+    let bytes = tree.bytes();
     if place >= bytes {
-        return nowhere(at);
+        return ran_through(0, at);
     }
-    if let Some(behind) = pass_under(search, memory, i, place, at) {
-        return Stop {
-            passed: bytes - place,
-            at: behind,
-            stopped: false,
-        };
+    if place == 0 && let Some(kept) = tree.kept() && let Some(behind) = search.pass(at, kept) {
+        return ran_through(bytes, behind);
     }
-    let left = child(memory, i, Side::Left);
-    let right = child(memory, i, Side::Right);
-    let first = seek_from(search, memory, left, place, at);
+    let Some(parts) = tree.parts() else {
+        return ran_through(0, at);
+    };
+    let first = seek(search, parts.left, place, at);
     if first.stopped {
         return first;
     }
-    let before = extent(memory, left).bytes as usize;
-    let inside = seek_own(search, memory, i, place.saturating_sub(before), first.at);
+    let within = place.saturating_sub(parts.left.bytes());
+    let inside = seek_chunk(search, parts.chunk, parts.reading, within, first.at);
     let own = further(first.passed, inside);
     if own.stopped {
         return own;
     }
-    let behind = before + chunk_length(memory, i) as usize;
-    let rest = seek_from(search, memory, right, place.saturating_sub(behind), own.at);
+    let beyond = within.saturating_sub(parts.chunk.len());
+    let rest = seek(search, parts.right, beyond, own.at);
     further(own.passed, rest)
-}
-
-// The same in the tree that memory holds.
-pub fn seek<R: Copy, S: Forward<Reading = R>>(
-    search: &S,
-    memory: &Memory<R>,
-    link: Option<u16>,
-    place: usize,
-    at: S::At,
-) -> Stop<S::At>
-    requires { Sound memory.now link }
-    ensures within { result.passed ≤ length (drop place (text_of memory.now (tree_of memory.now link))) }
-    ensures finds { Kept (S.scale search.now) memory.now link → result ≡ stop (S.goes search.now) at (drop place (text_of memory.now (tree_of memory.now link))) }
-{
-    seek_from(search, memory, link, place, at)
 }

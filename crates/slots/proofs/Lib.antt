@@ -16,11 +16,9 @@ pub mod Building
 pub mod Replacing
 pub mod Reading
 pub mod Exchanging
-pub mod Spots
 pub mod Preparing
 pub mod Ranges
 pub mod Rangewise
 pub mod Pasting
-pub mod Comparing
 pub mod Rewriting
 pub mod Overwritten

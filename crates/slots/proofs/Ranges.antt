@@ -29,12 +29,13 @@ between_clipped f t s xs =
 pub between_from : (a b e : ℕ) (xs : List ℕ) → take (a + e - (a + b)) (drop (a + b) xs) ≡ between b e (drop a xs)
 between_from a b e xs = let long : a + e - (a + b) ≡ e - b = omega arith in ap (λ n. take n (drop (a + b) xs)) long ∙ ap (take (e - b)) (sym (drop-drop b a xs))
 
-take_over : (t : ℕ) (xs ys : List ℕ) → take t (xs ++ ys) ≡ take t xs ++ take (t - length xs) ys
+-- The first elements of two lists, one behind the other, and what lies behind them.
+pub take_over : (t : ℕ) (xs ys : List ℕ) → take t (xs ++ ys) ≡ take t xs ++ take (t - length xs) ys
 take_over zero xs ys = let e : 0 - length xs ≡ 0 = omega arith in sym (ap (λ n. take n ys) e)
 take_over (suc t) [] ys = let e : suc t ≡ suc t - 0 = omega arith in ap (λ n. take n ys) e
 take_over (suc t) (x ∷ xs) ys = let e : t - length xs ≡ suc t - suc (length xs) = omega arith in ap (λ l. x ∷ l) (take_over t xs ys) ∙ ap (λ n. x ∷ (take t xs ++ take n ys)) e
 
-drop_over : (f : ℕ) (xs ys : List ℕ) → drop f (xs ++ ys) ≡ drop f xs ++ drop (f - length xs) ys
+pub drop_over : (f : ℕ) (xs ys : List ℕ) → drop f (xs ++ ys) ≡ drop f xs ++ drop (f - length xs) ys
 drop_over zero xs ys = let e : 0 - length xs ≡ 0 = omega arith in sym (ap (λ n. xs ++ drop n ys) e)
 drop_over (suc f) [] ys = let e : suc f ≡ suc f - 0 = omega arith in ap (λ n. drop n ys) e
 drop_over (suc f) (x ∷ xs) ys = let e : f - length xs ≡ suc f - suc (length xs) = omega arith in drop_over f xs ys ∙ ap (λ n. drop f xs ++ drop n ys) e

@@ -15,6 +15,7 @@ use Rattle.slots.specs.View.{next_of, height_at, Roomy}
 use Rattle.slots.specs.Holds.{Here, Holds}
 use Rattle.slots.specs.Free.{Stack}
 use Rattle.slots.specs.Replace.{Whole}
+use Rattle.slots.specs.Split.{Held}
 use Rattle.slots.specs.Sound.{left_of, right_of, read, read_free, tree_of, free_of, Sound}
 use Rattle.slots.proofs.Joining.{height_held}
 
@@ -135,3 +136,21 @@ whole_prop m link t is x y = λ z. record {
 
 pub whole_sound : {R : Type 0} (m : Memory R) (link : Option ℕ) → Sound m link → Whole m link (tree_of m link) (free_of m)
 whole_sound m link s = ∥∥₁_elim s (whole_prop m link (tree_of m link) (free_of m)) (λ w. w)
+
+held_prop : {R : Type 0} (m : Memory R) (link : Option ℕ) (t : Tree) → IsProp (Held m link t)
+held_prop m link t x y = λ z. record {
+  roomy = roomy_prop m x.roomy y.roomy z;
+  root_is = option_set _ _ x.root_is y.root_is z;
+  holds = holds_prop m t x.holds y.holds z;
+  once = λ j. le_prop (x.once j) (y.once j) z;
+}
+
+-- A tree that is read off memory and held there, also where only that it is held is kept.
+pub held_read : {R : Type 0} (m : Memory R) (link : Option ℕ) → ∥ Held m link (tree_of m link) ∥₁ → Held m link (tree_of m link)
+held_read m link s = ∥∥₁_elim s (held_prop m link (tree_of m link)) (λ h. h)
+
+pub read_is : {R : Type 0} {m : Memory R} {link : Option ℕ} {t : Tree} → Held m link t → tree_of m link ≡ t
+read_is {m} {link} {t} held = tree_held m held.roomy t link held.root_is held.holds
+
+pub held_kept : {R : Type 0} {m : Memory R} {link : Option ℕ} {t : Tree} → Held m link t → ∥ Held m link (tree_of m link) ∥₁
+held_kept {m} {link} {t} held = ∣ subst (λ (z : Tree). Held m link z) (sym (read_is held)) held ∣₁

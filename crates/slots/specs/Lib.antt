@@ -10,5 +10,4 @@ pub mod Replace
 pub mod Sound
 pub mod Prepare
 pub mod Copy
-pub mod Same
 pub mod Rewrite

@@ -17,4 +17,4 @@ loop-i-preserved g c =
 pub returns : goal.returns
 returns g c =
     let all : c.loop-i.i ≡ length c.args.bytes.now = omega arith in
-    ran_through (g.S.Forward.goes c.args.search.now) c.args.bytes.now _ c.loop-i.i c.loop-i.now_at c.loop-i.invariant all
+    c.ran_through.ensures ∙ ran_through (g.S.Forward.goes c.args.search.now) c.args.bytes.now _ c.loop-i.i c.loop-i.now_at c.loop-i.invariant all

@@ -1,5 +1,0 @@
-use Rattle.slots.proofs.Text.{size_read}
-use Rattle.questions.proofs.question.chunk_length.Goals as goal
-
-pub returns : goal.returns
-returns g c = size_read c.args.memory.now c.requires.0 c.args.i c.requires.1 c.index-slots-i.result

@@ -1,0 +1,5 @@
+pub mod Leads
+pub mod Under
+pub mod Parted
+pub mod Spans
+pub mod Stripped
