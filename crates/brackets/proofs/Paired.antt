@@ -1,5 +1,6 @@
 -- Two partners belong to each other. Between them the text is deeper than outside of them, so neither has a nearer one.
 use Rattle.std.proofs.Common.{◌≡◌, ℕ, zero, suc, ◌+◌, ◌-◌, ◌<◌, ◌≤◌, Bool, false, length, List, Some, None, Option, eqb, sym, refl, ap, ◌∙◌, subst, ⊎_elim, arith}
+use Rattle.std.specs.Option.{option_eq}
 use Rattle.std.proofs.lemmas.Bool.{cases_lt, cases_eq, eq-eqb, ne_eqb}
 use Rattle.automaton.specs.Automaton.{Automaton}
 use Rattle.automaton.specs.declared.role.Role.{Role}
@@ -22,8 +23,14 @@ is_closing Plain h = absurd (omega arith)
 is_closing (Opening kind) h = absurd (omega arith)
 is_closing (Closing kind) h = (kind, refl)
 
-turned : (m n : ℕ) → eqb m n ≡ eqb n m
-turned m n = ⊎_elim (λ e. eq-eqb m n e ∙ sym (eq-eqb n m (sym e))) (λ ne. ne_eqb m n ne ∙ sym (ne_eqb n m (λ e. ne (sym e)))) (cases_eq m n)
+turned_kind : (m n : ℕ) → eqb m n ≡ eqb n m
+turned_kind m n = ⊎_elim (λ e. eq-eqb m n e ∙ sym (eq-eqb n m (sym e))) (λ ne. ne_eqb m n ne ∙ sym (ne_eqb n m (λ e. ne (sym e)))) (cases_eq m n)
+
+turned : (k l : Option ℕ) → option_eq eqb k l ≡ option_eq eqb l k
+turned None None = refl
+turned None (Some n) = refl
+turned (Some m) None = refl
+turned (Some m) (Some n) = turned_kind m n
 
 abbrev told_of : ℕ → Bool → Partner
 told_of place same = record { place = place; agree = same }

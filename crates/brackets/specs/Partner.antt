@@ -2,6 +2,7 @@
 -- one kind is told besides.
 use Rattle.std.specs.Prelude.{ℕ, ◌+◌, ◌-◌, Bool, false, true, cond, List, length, Some, None, Option, ◌==◌, nat_lt, slice_index}
 use Rattle.std.specs.List.{between}
+use Rattle.std.specs.Option.{option_eq}
 use Rattle.automaton.specs.Automaton.{Automaton}
 use Rattle.automaton.specs.Bracket.{role}
 use Rattle.automaton.specs.Walk.{state_before}
@@ -16,10 +17,10 @@ is_live Plain = false
 is_live (Opening kind) = true
 is_live (Closing kind) = true
 
-abbrev pub kind_of : Role → ℕ
-kind_of Plain = 0
-kind_of (Opening kind) = kind
-kind_of (Closing kind) = kind
+abbrev pub kind_of : Role → Option ℕ
+kind_of Plain = None
+kind_of (Opening kind) = Some kind
+kind_of (Closing kind) = Some kind
 
 module _ (a : Automaton) (text : List ℕ) where
   -- The role of the byte at a place of the text.
@@ -46,7 +47,7 @@ module _ (a : Automaton) (text : List ℕ) where
 
   -- Whether the brackets at two places are of one kind.
   abbrev pub agree : ℕ → ℕ → Bool
-  agree p q = kind_of (role_at p) == kind_of (role_at q)
+  agree p q = option_eq (λ k l. k == l) (kind_of (role_at p)) (kind_of (role_at q))
 
   abbrev pub told : ℕ → Option ℕ → Option Partner
   told p None = None
