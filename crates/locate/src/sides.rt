@@ -21,14 +21,12 @@ pub trait Side<R> {
 
 // The first of two readings, beside those of another meter.
 #[derive(Clone, Copy)]
-pub struct First<'m, M> {
-    pub other: &'m M,
-}
+pub struct First<'m, M>(pub &'m M);
 
 impl<'m, R: Copy, M: Meter> Side<R> for First<'m, M> {
     type Whole = PairReading<R, M::Reading>;
 
-    ghost whole = { λ s μ. pair_measure μ (M.Meter.scale s.other.now) };
+    ghost whole = { λ s μ. pair_measure μ (M.scale s.0.now) };
 
     fn part<'r>(&self, reading: &'r PairReading<R, M::Reading>) -> &'r R {
         &reading.first
@@ -37,14 +35,12 @@ impl<'m, R: Copy, M: Meter> Side<R> for First<'m, M> {
 
 // The second of two readings, beside those of another meter.
 #[derive(Clone, Copy)]
-pub struct Second<'m, M> {
-    pub other: &'m M,
-}
+pub struct Second<'m, M>(pub &'m M);
 
 impl<'m, R: Copy, M: Meter> Side<R> for Second<'m, M> {
     type Whole = PairReading<M::Reading, R>;
 
-    ghost whole = { λ s μ. pair_measure (M.Meter.scale s.other.now) μ };
+    ghost whole = { λ s μ. pair_measure (M.scale s.0.now) μ };
 
     fn part<'r>(&self, reading: &'r PairReading<M::Reading, R>) -> &'r R {
         &reading.second
@@ -63,9 +59,9 @@ impl<S: Forward, P: Side<S::Reading>> Forward for On<P, S> {
 
     type At = S::At;
 
-    ghost scale = { λ s. P.Side.whole s.side (S.Forward.scale s.search) };
+    ghost scale = { λ s. P.whole s.side (S.scale s.search) };
 
-    ghost goes = { λ s. S.Forward.goes s.search };
+    ghost goes = { λ s. S.goes s.search };
 
     fn next(&self, at: S::At, byte: u8) -> Option<S::At> {
         self.search.next(at, byte)
@@ -83,11 +79,11 @@ impl<S: Backward, P: Side<S::Reading>> Backward for On<P, S> {
 
     type At = S::At;
 
-    ghost scale = { λ s. P.Side.whole s.side (S.Backward.scale s.search) };
+    ghost scale = { λ s. P.whole s.side (S.scale s.search) };
 
-    ghost fore = { λ s. S.Backward.fore s.search };
+    ghost fore = { λ s. S.fore s.search };
 
-    ghost back = { λ s. S.Backward.back s.search };
+    ghost back = { λ s. S.back s.search };
 
     fn ahead(&self, state: S::Fore, byte: u8) -> S::Fore {
         self.search.ahead(state, byte)

@@ -4,4 +4,4 @@ use Rattle.measure.specs.declared.pair_reading.PairReading.{PairReading}
 use Rattle.locate.proofs.sides.SecondSide.part.Goals as goal
 
 pub returns : goal.returns
-returns g c μ text e = ap (λ (x : PairReading _ _). x.second) (e ∙ pair_reading (g.M.Meter.scale c.args.self.now.other.now) μ text)
+returns g c μ text e = ap (λ (x : PairReading _ _). x.second) (e ∙ pair_reading (g.M.Meter.scale c.args.self.now.0.now) μ text)
