@@ -1,5 +1,6 @@
 -- Two partners belong to each other. Between them the text is deeper than outside of them, so neither has a nearer one.
 use Rattle.std.proofs.Common.{◌≡◌, ℕ, zero, suc, ◌+◌, ◌-◌, ◌<◌, ◌≤◌, Bool, false, length, List, Some, None, Option, sym, refl, ap, ◌∙◌, subst, ⊎_elim, arith}
+use Rattle.std.specs.Option.{option_eq}
 use Rattle.std.proofs.lemmas.Bool.{cases_lt}
 use Rattle.automaton.specs.Automaton.{Automaton}
 use Rattle.automaton.specs.declared.role.BracketKind.{BracketKind}
@@ -24,23 +25,22 @@ is_closing Plain h = absurd (omega arith)
 is_closing (Opening kind) h = absurd (omega arith)
 is_closing (Closing kind) h = (kind, refl)
 
-turned : (j k : Option BracketKind) → same_kind j k ≡ same_kind k j
+turned_kind : (j k : BracketKind) → same_kind j k ≡ same_kind k j
+turned_kind Round Round = refl
+turned_kind Round Square = refl
+turned_kind Round Curly = refl
+turned_kind Square Round = refl
+turned_kind Square Square = refl
+turned_kind Square Curly = refl
+turned_kind Curly Round = refl
+turned_kind Curly Square = refl
+turned_kind Curly Curly = refl
+
+turned : (j k : Option BracketKind) → option_eq same_kind j k ≡ option_eq same_kind k j
 turned None None = refl
-turned None (Some Round) = refl
-turned None (Some Square) = refl
-turned None (Some Curly) = refl
-turned (Some Round) None = refl
-turned (Some Square) None = refl
-turned (Some Curly) None = refl
-turned (Some Round) (Some Round) = refl
-turned (Some Round) (Some Square) = refl
-turned (Some Round) (Some Curly) = refl
-turned (Some Square) (Some Round) = refl
-turned (Some Square) (Some Square) = refl
-turned (Some Square) (Some Curly) = refl
-turned (Some Curly) (Some Round) = refl
-turned (Some Curly) (Some Square) = refl
-turned (Some Curly) (Some Curly) = refl
+turned None (Some k) = refl
+turned (Some j) None = refl
+turned (Some j) (Some k) = turned_kind j k
 
 abbrev told_of : ℕ → Bool → Partner
 told_of place same = record { place = place; agree = same }

@@ -2,6 +2,7 @@
 -- one kind is told besides.
 use Rattle.std.specs.Prelude.{ℕ, ◌+◌, ◌-◌, Bool, false, true, cond, List, length, Some, None, Option, ◌==◌, nat_lt, slice_index}
 use Rattle.std.specs.List.{between}
+use Rattle.std.specs.Option.{option_eq}
 use Rattle.automaton.specs.Automaton.{Automaton}
 use Rattle.automaton.specs.Bracket.{role}
 use Rattle.automaton.specs.Walk.{state_before}
@@ -23,11 +24,10 @@ kind_of Plain = None
 kind_of (Opening kind) = Some kind
 kind_of (Closing kind) = Some kind
 
-abbrev pub same_kind : Option BracketKind → Option BracketKind → Bool
-same_kind None None = true
-same_kind (Some Round) (Some Round) = true
-same_kind (Some Square) (Some Square) = true
-same_kind (Some Curly) (Some Curly) = true
+abbrev pub same_kind : BracketKind → BracketKind → Bool
+same_kind Round Round = true
+same_kind Square Square = true
+same_kind Curly Curly = true
 same_kind one other = false
 
 module _ (a : Automaton) (text : List ℕ) where
@@ -55,7 +55,7 @@ module _ (a : Automaton) (text : List ℕ) where
 
   -- Whether the brackets at two places are of one kind.
   abbrev pub agree : ℕ → ℕ → Bool
-  agree p q = same_kind (kind_of (role_at p)) (kind_of (role_at q))
+  agree p q = option_eq same_kind (kind_of (role_at p)) (kind_of (role_at q))
 
   abbrev pub told : ℕ → Option ℕ → Option Partner
   told p None = None

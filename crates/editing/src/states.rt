@@ -8,7 +8,7 @@ ghost use Rattle.editing.specs.Content.{text_in, document_measure};
 use grammar::Grammar;
 use locate::two_states::TwoStates;
 use locate::walked::Walked;
-use locate::{Meeting, OnFirst, StateBefore};
+use locate::{First, Meeting, On, StateBefore};
 use meter::Meter;
 use tree::ChunkTree;
 use walks::{DocumentMeter, Readings};
@@ -21,11 +21,13 @@ pub fn state_before<X: Copy, G: Grammar, H: Meter<Reading = X>>(
 ) -> u8
     ensures { KeptBy tree.now (document_measure (G.Grammar.meaning meter.now.first.grammar) (H.Meter.scale meter.now.second.second)) → result ≡ state_before (G.Grammar.meaning meter.now.first.grammar) (text_in tree.now) place }
 {
-    let search = OnFirst {
+    let search = On {
+        side: First {
+            other: &meter.second,
+        },
         search: StateBefore {
             grammar: &meter.first.grammar,
         },
-        other: &meter.second,
     };
     let start = Walked {
         left: place as usize,
@@ -44,11 +46,13 @@ pub fn apart_from<X: Copy, G: Grammar, H: Meter<Reading = X>>(
     ensures within { result ≤ length (drop place (text_in tree.now)) }
     ensures meets { KeptBy tree.now (document_measure (G.Grammar.meaning meter.now.first.grammar) (H.Meter.scale meter.now.second.second)) → result ≡ apart (G.Grammar.meaning meter.now.first.grammar) states.old states.new (drop place (text_in tree.now)) }
 {
-    let search = OnFirst {
+    let search = On {
+        side: First {
+            other: &meter.second,
+        },
         search: Meeting {
             grammar: &meter.first.grammar,
         },
-        other: &meter.second,
     };
     tree.seek(&search, place, states).passed
 }

@@ -10,12 +10,13 @@ use Rattle.measure.proofs.Place.{place_is}
 use Rattle.measure.specs.declared.place_reading.Extent.{Extent}
 use Rattle.positions.proofs.Lines.{one_end, no_end, units_first, units_later}
 use Rattle.search.specs.Forwards.{then, through}
+use Rattle.locate.specs.Carried.{carried}
 use Rattle.locate.specs.InLine.{lined, column_on}
 use Rattle.locate.specs.declared.lined.Lined.{Lined}
 
 -- The units with which the last line of a text begins: those so far, unless a line ended.
 abbrev pub base : ℕ → List ℕ → ℕ
-base u text = cond (eqb (line_ends text) 0) u 0
+base u text = carried u (line_ends text)
 
 same_lined : {x y u v : ℕ} → x ≡ y → u ≡ v → ◌≡◌ {A = Option Lined} (Some (lined x u)) (Some (lined y v))
 same_lined {y} {u} e f = ap (λ n. Some (lined n u)) e ∙ ap (λ n. Some (lined y n)) f

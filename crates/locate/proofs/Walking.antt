@@ -1,16 +1,17 @@
 -- Walking to a place, byte by byte and over a whole text.
-use Rattle.std.proofs.Common.{◌≡◌, ℕ, zero, suc, ◌-◌, ◌<◌, ◌≤◌, eqb, List, [], ◌∷◌, length, Some, None, sym, refl, ap, ◌∙◌, arith}
+use Rattle.std.proofs.Common.{◌≡◌, ℕ, zero, suc, ◌-◌, ◌≤◌, eqb, List, [], ◌∷◌, length, Some, None, sym, refl, ap, ◌∙◌, arith}
 use Rattle.std.proofs.lemmas.List.{take_all}
 use Rattle.std.proofs.lemmas.Bool.{cond-false, ne_eqb}
 use Rattle.automaton.specs.Automaton.{Automaton, Lawful}
 use Rattle.automaton.specs.Walk.{walk}
 use Rattle.measure.specs.Measure.{reading}
 use Rattle.measure.specs.Walk.{walk_measure, entry_at}
-use Rattle.measure.proofs.Walk.{entries_tell}
+use Rattle.measure.specs.declared.walk_reading.Entry.{Entry}
 use Rattle.measure.specs.declared.walk_reading.Passage.{Passage}
 use Rattle.search.specs.Forwards.{then, through, stop, stop_or}
 use Rattle.locate.specs.StateBefore.{walked, walk_on, WalkComesToPlace}
 use Rattle.locate.specs.declared.walked.Walked.{Walked}
+use Rattle.locate.proofs.Passages.{passage_told, entry_told}
 
 on_step : (a : Automaton) (s n b : ℕ) → walk_on a (walked (suc n) s) b ≡ Some (walked n (a.step s b))
 on_step a s n b =
@@ -31,10 +32,10 @@ walks_through a s (suc n) (b ∷ text) h =
     let fewer : n - length text ≡ suc n - suc (length text) = omega arith in
     ap (λ o. then o (λ x. through (walk_on a) x text)) (on_step a s n b) ∙ walks_through a (a.step s b) n text (omega arith) ∙ ap (λ k. Some (walked k (walk a (a.step s b) text))) fewer
 
-pub walked_over : (a : Automaton) → Lawful a → (at : Walked) (text : List ℕ) (p : Passage) → reading (walk_measure a) text ≡ Some p → p.length ≤ at.left → at.state < 64 → through (walk_on a) at text ≡ Some (walked (at.left - p.length) (entry_at p.entries at.state).end)
-walked_over a lawful at text p e short low =
-    let told = entries_tell a lawful text p e in
-    let long = told.0 in
-    walks_through a at.state at.left text (omega arith)
+pub walked_over : (a : Automaton) → Lawful a → (at : Walked) (text : List ℕ) (p : Passage) → reading (walk_measure a) text ≡ Some p → p.length ≤ at.left → through (walk_on a) at text ≡ Some (walked (at.left - p.length) (entry_at p.entries at.state).end)
+walked_over a lawful at text p e short =
+    let is = (passage_told a lawful text p e).1 in
+    let long = ap (λ (q : Passage). q.length) is in
+    walks_through a at.state at.left text (omega (arith, long))
     ∙ ap (λ k. Some (walked (at.left - k) (walk a at.state text))) (sym long)
-    ∙ ap (λ s. Some (walked (at.left - p.length) s)) (sym (told.2 at.state low).ends)
+    ∙ ap (λ (x : Entry). Some (walked (at.left - p.length) x.end)) (sym (entry_told a lawful text p is at.state))

@@ -3,6 +3,7 @@ ghost use Rattle.std.specs.Prelude.{◌≡◌};
 ghost use Rattle.measure.specs.Place.{place_measure};
 ghost use Rattle.locate.specs.AtPlace.{place_on};
 
+use crate::carried::carried;
 use crate::placed::Placed;
 use measure::place_reading::Extent;
 use meter::{ends_line, width};
@@ -21,20 +22,18 @@ impl Forward for AtPlace {
     ghost goes = { λ _. place_on };
 
     fn next(&self, at: Placed, byte: u8) -> Option<Placed> {
-        if at.left == 0 {
-            return None;
-        }
+        let left = at.left.checked_sub(1)?;
         Some(if ends_line(byte) {
             Placed {
-                left: at.left - 1,
+                left,
                 lines: at.lines.saturating_add(1),
                 units: 0,
             }
         } else {
             Placed {
-                left: at.left - 1,
-                lines: at.lines,
+                left,
                 units: at.units.saturating_add(width(byte)),
+                ..at
             }
         })
     }
@@ -42,14 +41,10 @@ impl Forward for AtPlace {
     // A text that ends before the place is counted by one look at its extent.
     fn pass(&self, at: Placed, reading: &Option<Extent>) -> Option<Placed> {
         let extent = reading.as_ref()?;
-        if extent.length as usize > at.left {
-            return None;
-        }
-        let start = if extent.lines == 0 { at.units } else { 0 };
         Some(Placed {
-            left: at.left - extent.length as usize,
+            left: at.left.checked_sub(extent.length as usize)?,
             lines: at.lines.saturating_add(extent.lines),
-            units: start.saturating_add(extent.units),
+            units: carried(at.units, extent).saturating_add(extent.units),
         })
     }
 }

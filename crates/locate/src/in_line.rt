@@ -3,6 +3,7 @@ ghost use Rattle.std.specs.Prelude.{◌≡◌};
 ghost use Rattle.measure.specs.Place.{place_measure};
 ghost use Rattle.locate.specs.InLine.{column_on};
 
+use crate::carried::carried;
 use crate::lined::Lined;
 use measure::place_reading::Extent;
 use meter::{ends_line, width};
@@ -46,7 +47,7 @@ impl Forward for InLine {
     // A text that ends before the column's place is passed over by one look at its extent.
     fn pass(&self, at: Lined, reading: &Option<Extent>) -> Option<Lined> {
         let extent = reading.as_ref()?;
-        let start = if extent.lines == 0 { at.units } else { 0 };
+        let start = carried(at.units, extent);
         if extent.lines < at.lines {
             return Some(Lined {
                 lines: at.lines - extent.lines,

@@ -4,6 +4,7 @@
 #![tactic(auto)]
 
 pub mod at_place;
+mod carried;
 pub mod depth;
 pub mod in_line;
 pub mod laws;
@@ -24,5 +25,5 @@ pub use in_line::InLine;
 pub use meeting::Meeting;
 pub use partner_ahead::PartnerAhead;
 pub use partner_behind::PartnerBehind;
-pub use sides::{OnFirst, OnSecond};
+pub use sides::{First, On, Second};
 pub use state_before::StateBefore;

@@ -35,14 +35,8 @@ impl<'g, G: Grammar> Forward for Meeting<'g, G> {
     // Walks that have met stay together, so where the ends differ they have not met in between.
     fn pass(&self, at: TwoStates, reading: &Option<Passage>) -> Option<TwoStates> {
         let passage = reading.as_ref()?;
-        if at.old >= 64 || at.new >= 64 {
-            return None;
-        }
-        let old = passage.entries[at.old as usize].end;
-        let new = passage.entries[at.new as usize].end;
-        if old == new {
-            return None;
-        }
-        Some(TwoStates { old, new })
+        let old = passage.entry(at.old).end;
+        let new = passage.entry(at.new).end;
+        (old != new).then_some(TwoStates { old, new })
     }
 }

@@ -23,25 +23,18 @@ impl<G: Grammar> Forward for StateBefore<G> {
     ghost goes = { λ s. walk_on (G.Grammar.meaning s.grammar) };
 
     fn next(&self, at: Walked, byte: u8) -> Option<Walked> {
-        if at.left == 0 {
-            return None;
-        }
         Some(Walked {
-            left: at.left - 1,
+            left: at.left.checked_sub(1)?,
             state: self.grammar.step(at.state, byte),
         })
     }
 
     // A text that ends before the place is walked through by one look at its entry.
     fn pass(&self, at: Walked, reading: &Option<Passage>) -> Option<Walked> {
-        match reading {
-            Some(passage) if passage.length as usize <= at.left && at.state < 64 => {
-                Some(Walked {
-                    left: at.left - passage.length as usize,
-                    state: passage.entries[at.state as usize].end,
-                })
-            }
-            _ => None,
-        }
+        let passage = reading.as_ref()?;
+        Some(Walked {
+            left: at.left.checked_sub(passage.length as usize)?,
+            state: passage.entry(at.state).end,
+        })
     }
 }

@@ -1,8 +1,7 @@
-use Rattle.std.proofs.Common.{get_or, Some, sym, ap, ◌∙◌}
-use Rattle.automaton.specs.Walk.{walk}
-use Rattle.locate.specs.Meeting.{two_states}
-use Rattle.measure.specs.Walk.{still}
-use Rattle.locate.proofs.Together.{stays_apart, end_told}
+use Rattle.std.proofs.Common.{◌≡◌, Some, IfSome, sym, ◌∙◌, subst}
+use Rattle.search.specs.Forwards.{through}
+use Rattle.locate.specs.Meeting.{meet_on}
+use Rattle.locate.proofs.Together.{apart_told, end_told}
 use Rattle.locate.proofs.meeting.MeetingForward.pass.Goals as goal
 
 pub returns : goal.returns
@@ -12,8 +11,6 @@ returns g c text e =
     let p = c.in_ok-passage.passage.now in
     let at = c.args.at in
     let is = sym (c.in_ok-passage.ensures.value ∙ e) in
-    let old = end_told a (g.G.Grammar.lawful grammar) text p is at.old c.if-at-ge64.false in
-    let new = end_told a (g.G.Grammar.lawful grammar) text p is at.new c.if-at-ge64-2.false in
-    stays_apart a at.old at.new text (λ z. c.if-old-new.false (old ∙ z ∙ sym new))
-    ∙ ap (λ s. Some (two_states s (walk a at.new text))) (sym old)
-    ∙ ap (λ s. Some (two_states (get_or p.entries at.old (still 0)).end s)) (sym new)
+    let old = end_told a (g.G.Grammar.lawful grammar) text p is at.old c.entry-old.result c.entry-old.ensures in
+    let new = end_told a (g.G.Grammar.lawful grammar) text p is at.new c.entry-new.result c.entry-new.ensures in
+    subst (λ o. IfSome o (λ x. through (meet_on a) at text ≡ Some x)) (sym c.then_some.ensures) (apart_told a at.old at.new text c.entry-old.result.end c.entry-new.result.end old new)
