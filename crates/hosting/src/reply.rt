@@ -1,22 +1,21 @@
 // What a host does about a request, and what it writes as the answer.
 ghost use Rattle.std.specs.Prelude.{◌≡◌, ◌-◌, min, take, length, unwrap_or, option_map, IfOk, MatchOption, IsTrue};
 ghost use Rattle.document.specs.Content.{Keeps};
-ghost use Rattle.document.specs.Snapshot.{Snapshot};
 ghost use Rattle.editing.specs.Content.{document_measure};
 ghost use Rattle.measure.specs.Blank.{blank_measure};
 ghost use Rattle.session.specs.Asked.{asked as asked_by};
 ghost use Rattle.hosting.specs.Replies.{IsCall, IsNoCall, digits, written_of, Replies};
+ghost use Rattle.hosting.specs.Host.{here, SameHost};
 
-use document::{Answer, Call, Document};
+use crate::host::Host;
+use document::{Answer, Call};
 use editing::Readings;
 use grammar::Grammar;
-use meter::Blank;
 use model::Change;
 use notation::{digits_text, quoted_text};
 use report::{summarize, summary_text};
 use session::{Request, answer_text};
 use std::alloc::{AllocError, Global};
-use walks::DocumentMeter;
 
 // A due that never stands.
 const NO_CHANGE: Change = Change {
@@ -63,10 +62,7 @@ fn answer_of(
 fn room_of(asked: Option<u32>, cells: usize) -> usize
     ensures { result ≡ unwrap_or asked cells }
 {
-    match asked {
-        Some(room) => room as usize,
-        None => cells,
-    }
+    asked.map_or(cells, |room| room as usize)
 }
 
 // The call that a request is, with a grammar of so many states; nothing where it is none.
@@ -78,44 +74,37 @@ fn call_of<'a>(
 ) -> Option<Call<'a>>
     ensures { MatchOption result (IsNoCall (asked_by request.now)) (λ k. IsCall states standing cells (asked_by request.now) k) }
 {
-    match request {
+    match *request {
         Request::PassedOver | Request::Screen(_) => None,
         Request::Open => Some(Call::Open { states }),
-        Request::Edit { from, to, bytes } => Some(Call::Edit {
-            from: *from,
-            to: *to,
-            bytes,
-        }),
-        Request::Paint(change) => Some(Call::Paint {
-            change: change.unwrap_or(standing.unwrap_or(NO_CHANGE)),
-        }),
+        Request::Edit {
+            from,
+            to,
+            ref bytes,
+        } => Some(Call::Edit { from, to, bytes }),
+        Request::Paint(change) => {
+            let change = change.or(standing).unwrap_or(NO_CHANGE);
+            Some(Call::Paint { change })
+        }
         Request::Close => Some(Call::Close),
-        Request::Text { from, to, room } => Some(Call::Text {
-            from: *from,
-            to: *to,
-            room: room_of(*room, cells),
-        }),
-        Request::Colours { from, to, room } => Some(Call::Colours {
-            from: *from,
-            to: *to,
-            room: room_of(*room, cells),
-        }),
+        Request::Text { from, to, room } => {
+            let room = room_of(room, cells);
+            Some(Call::Text { from, to, room })
+        }
+        Request::Colours { from, to, room } => {
+            let room = room_of(room, cells);
+            Some(Call::Colours { from, to, room })
+        }
         Request::Size => Some(Call::Size),
-        Request::Script { text, records } => Some(Call::Script { records, text }),
-        Request::Range { from, to } => Some(Call::Range {
-            from: *from,
-            to: *to,
-        }),
-        Request::Same { place, bytes } => Some(Call::Same {
-            place: *place,
-            bytes,
-        }),
-        Request::Place(place) => Some(Call::Place { place: *place }),
-        Request::Spot { line, column } => Some(Call::Spot {
-            line: *line,
-            column: *column,
-        }),
-        Request::Partner(place) => Some(Call::Partner { place: *place }),
+        Request::Script {
+            ref text,
+            ref records,
+        } => Some(Call::Script { records, text }),
+        Request::Range { from, to } => Some(Call::Range { from, to }),
+        Request::Same { place, ref bytes } => Some(Call::Same { place, bytes }),
+        Request::Place(place) => Some(Call::Place { place }),
+        Request::Spot { line, column } => Some(Call::Spot { line, column }),
+        Request::Partner(place) => Some(Call::Partner { place }),
     }
 }
 
@@ -127,31 +116,28 @@ fn shown(heap: Global, screen: &[u8], asked: Option<u32>, text: u32) -> Result<V
     digits_text(heap, &screen[..count])
 }
 
-// Carries a request out; gives what is to be written, nothing for a line that is passed over.
-pub fn reply<G: Grammar>(
-    heap: Global,
-    meter: &DocumentMeter<G, Blank>,
-    document: &mut Document<Readings<()>>,
-    screen: &mut [u8],
-    buffer: &mut [u8],
-    reading: &mut Readings<()>,
-    request: &Request,
-) -> Result<Option<Vec<u8>>, AllocError>
-    ensures replies { Keeps document.old (document_measure (G.meaning meter.now.first.grammar) blank_measure) → IfOk result (λ out. Replies (G.meaning meter.now.first.grammar) (document_measure (G.meaning meter.now.first.grammar) blank_measure) (asked_by request.now) (record { document = document.old; screen = screen.old; buffer = buffer.old; reading = reading.old }) (record { document = document.new; screen = screen.new; buffer = buffer.new; reading = reading.new }) (option_map (λ v. v.items) out)) }
-    ensures keeps { Keeps document.old (document_measure (G.meaning meter.now.first.grammar) blank_measure) → Keeps document.new (document_measure (G.meaning meter.now.first.grammar) blank_measure) }
-{
-    let states = meter.first.grammar.count();
-    match call_of(states, document.standing(), buffer.len(), request) {
-        Some(call) => {
-            let answer = document.perform(meter, screen, buffer, reading, call);
-            Ok(Some(answer_of(heap, call, answer, buffer, reading)?))
-        }
-        None => match request {
-            Request::Screen(asked) => {
-                let (bytes, _, _) = document.size();
-                Ok(Some(shown(heap, screen, *asked, bytes)?))
+impl<G: Grammar> Host<'_, G> {
+    // Carries a request out; gives what is to be written, nothing for a line that is passed over.
+    pub fn reply(&mut self, request: &Request) -> Result<Option<Vec<u8>>, AllocError>
+        ensures replies { let a = G.meaning self.old.meter.now.first.grammar in let μ = document_measure a blank_measure in Keeps self.old.document μ → IfOk result (λ out. Replies a μ (asked_by request.now) (here self.old) (here self.new) (option_map (λ v. v.items) out)) }
+        ensures keeps { let μ = document_measure (G.meaning self.old.meter.now.first.grammar) blank_measure in Keeps self.old.document μ → Keeps self.new.document μ }
+        ensures same { SameHost self.old self.new }
+    {
+        let states = self.meter.first.grammar.count();
+        let standing = self.document.standing();
+        match call_of(states, standing, self.desk.buffer.len(), request) {
+            Some(call) => {
+                let answer = self.document.perform(self.meter, &mut self.desk, call);
+                let line = answer_of(self.heap, call, answer, self.desk.buffer, self.desk.reading)?;
+                Ok(Some(line))
             }
-            _ => Ok(None),
-        },
+            None => match request {
+                Request::Screen(asked) => {
+                    let (bytes, _, _) = self.document.size();
+                    Ok(Some(shown(self.heap, self.desk.screen, *asked, bytes)?))
+                }
+                _ => Ok(None),
+            },
+        }
     }
 }
