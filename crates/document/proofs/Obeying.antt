@@ -1,11 +1,11 @@
 -- What is written to the front of a buffer of which a call may use so many cells.
-use Rattle.std.proofs.Common.{◌≡◌, ℕ, ◌-◌, ◌≤◌, cond, ◌&&◌, leb, List, ◌++◌, length, take, drop, is_ok, IfOk, IfErr, Some, None, Ok, Err, Option, Result, sym, refl, ap, ◌∙◌, subst, append_assoc, arith}
+use Rattle.std.proofs.Common.{◌≡◌, ℕ, ◌-◌, ◌≤◌, cond, ◌&&◌, leb, List, ◌++◌, length, take, drop, is_ok, IfOk, Some, None, Ok, Err, Option, Result, sym, refl, ap, ◌∙◌, append_assoc}
 use Rattle.std.proofs.lemmas.List.{take-append-drop}
 use Rattle.std.proofs.lemmas.Bool.{leb-true, and_parts}
 use Rattle.std.proofs.lemmas.Slice.{between_is}
 use Rattle.model.specs.declared.refusal.Refusal.{Refusal}
 use Rattle.model.specs.declared.refusal.Refusal.TheVariants.{OutsideText, ShortBuffer}
-use Rattle.model.specs.Calls.{unless, answered, refusal_in, range_refusal, with_front}
+use Rattle.model.specs.Calls.{unless, answered, range_refusal, with_front}
 use Rattle.model.specs.Model.{Model, text_of}
 use Rattle.model.proofs.Editing.{between_drop}
 use Rattle.editing.proofs.Planning.{passed}
@@ -23,13 +23,13 @@ front_extends part buffer out cells fits is =
 pub written_within : (o : Option Refusal) (r : Result (Unit {0}) Refusal) → r ≡ answered o tt → (part buffer out : List ℕ) (cells : ℕ) → (o ≡ None → length part ≤ cells) →
     out ≡ cond (is_ok r) (with_front part (take cells buffer)) (take cells buffer) → out ++ drop cells buffer ≡ cond (is_ok r) (with_front part buffer) buffer
 written_within None (Ok x) is part buffer out cells fits e = front_extends part buffer out cells (fits refl) e
-written_within (Some f) (Ok x) is part buffer out cells fits e = let no : ◌≡◌ {A = ℕ} 0 1 = cc in absurd (omega arith)
+written_within (Some f) (Ok x) is part buffer out cells fits e = cc
 written_within o (Err f) is part buffer out cells fits e = ap (λ l. l ++ drop cells buffer) e ∙ take-append-drop cells buffer
 
 pub kept_within : (o : Option Refusal) (r : Result (Unit {0}) Refusal) → r ≡ answered o tt → (K : Type 0) (part buffer out : List ℕ) (cells : ℕ) → (o ≡ None → length part ≤ cells) →
     IfOk r (λ _. K → out ≡ with_front part (take cells buffer)) → IfOk r (λ _. K → out ++ drop cells buffer ≡ with_front part buffer)
 kept_within None (Ok x) is K part buffer out cells fits told = λ kept. front_extends part buffer out cells (fits refl) (told kept)
-kept_within (Some f) (Ok x) is K part buffer out cells fits told = let no : ◌≡◌ {A = ℕ} 0 1 = cc in absurd (omega arith)
+kept_within (Some f) (Ok x) is K part buffer out cells fits told = cc
 kept_within o (Err f) is K part buffer out cells fits told = tt
 
 -- A range that is not refused fits its buffer.

@@ -72,7 +72,9 @@ fn pile_named(word: &str) -> Option<Pile>
 fn begins_with_digit(word: &str) -> bool
     ensures { result ≡ begins_so word.now }
 {
-    word.as_bytes().first().is_some_and(|byte| byte.is_ascii_digit())
+    word.as_bytes()
+        .first()
+        .is_some_and(|byte| byte.is_ascii_digit())
 }
 
 impl Options {

@@ -8,7 +8,7 @@ ghost use Rattle.hosting.specs.Replies.{IsCall, IsNoCall, digits, written_of, Re
 ghost use Rattle.hosting.specs.Host.{here, SameHost};
 
 use crate::host::Host;
-use document::{Answer, Call};
+use document::{Answer, Call, Desk};
 use editing::Readings;
 use grammar::Grammar;
 use model::Change;
@@ -38,20 +38,19 @@ fn answer_of(
     heap: Global,
     call: Call,
     answer: Answer,
-    buffer: &[u8],
-    reading: &Readings<()>,
+    desk: &Desk<Readings<()>>,
 ) -> Result<Vec<u8>, AllocError>
-    ensures { IfOk result (λ v. v.items ≡ written_of call.entry answer buffer.now reading.now) }
+    ensures { IfOk result (λ v. v.items ≡ written_of call.entry answer desk.now.buffer.now desk.now.reading.now) }
 {
     match (call, answer) {
         (Call::Text { from, to, .. }, Answer::Written) => {
-            quoted_text(heap, front(buffer, from, to))
+            quoted_text(heap, front(desk.buffer, from, to))
         }
         (Call::Colours { from, to, .. }, Answer::Written) => {
-            digits_text(heap, front(buffer, from, to))
+            digits_text(heap, front(desk.buffer, from, to))
         }
         (Call::Range { .. }, Answer::Written) => {
-            let summary = summarize(&reading.first, &reading.second.first);
+            let summary = summarize(&desk.reading.first, &desk.reading.second.first);
             Ok(summary_text(heap, summary)?.into_bytes())
         }
         _ => Ok(answer_text(heap, answer)?.into_bytes()),
@@ -109,11 +108,16 @@ fn call_of<'a>(
 }
 
 // The first cells of the screen: as many as are asked for, or as the text has bytes; never more than there are.
-fn shown(heap: Global, screen: &[u8], asked: Option<u32>, text: u32) -> Result<Vec<u8>, AllocError>
-    ensures { IfOk result (λ v. v.items ≡ digits (take (min (unwrap_or asked text) (length screen.now)) screen.now)) }
+fn shown(
+    heap: Global,
+    desk: &Desk<Readings<()>>,
+    asked: Option<u32>,
+    text: u32,
+) -> Result<Vec<u8>, AllocError>
+    ensures { let screen = desk.now.screen.now in IfOk result (λ v. v.items ≡ digits (take (min (unwrap_or asked text) (length screen)) screen)) }
 {
-    let count = (asked.unwrap_or(text) as usize).min(screen.len());
-    digits_text(heap, &screen[..count])
+    let count = (asked.unwrap_or(text) as usize).min(desk.screen.len());
+    digits_text(heap, &desk.screen[..count])
 }
 
 impl<G: Grammar> Host<'_, G> {
@@ -128,13 +132,12 @@ impl<G: Grammar> Host<'_, G> {
         match call_of(states, standing, self.desk.buffer.len(), request) {
             Some(call) => {
                 let answer = self.document.perform(self.meter, &mut self.desk, call);
-                let line = answer_of(self.heap, call, answer, self.desk.buffer, self.desk.reading)?;
-                Ok(Some(line))
+                Ok(Some(answer_of(self.heap, call, answer, &self.desk)?))
             }
             None => match request {
                 Request::Screen(asked) => {
                     let (bytes, _, _) = self.document.size();
-                    Ok(Some(shown(self.heap, self.desk.screen, *asked, bytes)?))
+                    Ok(Some(shown(self.heap, &self.desk, *asked, bytes)?))
                 }
                 _ => Ok(None),
             },

@@ -4,7 +4,7 @@ use Rattle.model.specs.Model.{Model}
 use Rattle.editing.specs.Content.{scale_of}
 use Rattle.document.specs.declared.call.Call.TheVariants.{Size}
 use Rattle.document.specs.declared.call.Answer.{Answer}
-use Rattle.document.specs.Snapshot.{seen, SameDesk}
+use Rattle.document.specs.Snapshot.{seen}
 use Rattle.document.specs.Log.{lent_by}
 use Rattle.document.proofs.Replays.{Going, begins, goes_on, replayed}
 use Rattle.document.proofs.replaying.replay.Goals as goal

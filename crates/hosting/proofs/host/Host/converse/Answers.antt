@@ -28,13 +28,14 @@ loop-number-preserved g c =
     let kept_by : Keeps before.document μ → Keeps before.document (document_measure now blank_measure) = subst (λ (b : Automaton). Keeps before.document (document_measure b blank_measure)) (sym meant) in
     let kept : Keeps before.document μ → Keeps after.document μ = λ k. subst (λ (b : Automaton). Keeps after.document (document_measure b blank_measure)) meant (told.keeps (kept_by k)) in
     let answers : Keeps before.document μ → AnswersLine a μ c.loop-number.number (request_of c.deref.result.now) (here before) (here after) (g.W.Write.contents c.loop-number.out) (g.W.Write.contents c.answer_line.new.out) =
-        λ k. subst (λ (b : Automaton). AnswersLine b (document_measure b blank_measure) c.loop-number.number (request_of c.deref.result.now) (here before) (here after) (g.W.Write.contents c.loop-number.out) (g.W.Write.contents c.answer_line.new.out)) meant (told.answers (kept_by k)) in
-    ((still.0 ∙ same.0, (still.1.0 ∙ same.1.0, (still.1.1.0 ∙ same.1.1.0, still.1.1.1 ∙ same.1.1.1))),
+    λ k. subst (λ (b : Automaton). AnswersLine b (document_measure b blank_measure) c.loop-number.number (request_of c.deref.result.now) (here before) (here after) (g.W.Write.contents c.loop-number.out) (g.W.Write.contents c.answer_line.new.out)) meant (told.answers (kept_by k)) in (
+      (still.0 ∙ same.0, (still.1.0 ∙ same.1.0, (still.1.1.0 ∙ same.1.1.0, still.1.1.1 ∙ same.1.1.1))),
       λ keeps.
-      let so = c.loop-number.invariant.1 keeps in (
-        kept so.0,
-        goes_on a μ _ left _ _ _ _ _ _ so.1 others _ _ c.deref.result.now c.read_line.new.line.items _ _ c.in_ok-read_line.ensures (answers so.0) _ _ (search rules) c.deref.ensures.value told.readable (search rules) (search rules),
-      ))
+          let so = c.loop-number.invariant.1 keeps in (
+            kept so.0,
+            goes_on a μ _ left _ _ _ _ _ _ so.1 others _ _ c.deref.result.now c.read_line.new.line.items _ _ c.in_ok-read_line.ensures (answers so.0) _ _ (search rules) c.deref.ensures.value told.readable (search rules) (search rules),
+          ),
+    )
 
 pub returns-clause-conversed : goal.returns-clause-conversed
 returns-clause-conversed g c =

@@ -10,8 +10,8 @@ use Rattle.hosting.specs.Replies.{IsCall}
 use Rattle.hosting.proofs.Replying.{carried}
 use Rattle.hosting.proofs.host.Host.reply.Goals as goal
 
-pub returns-in_ok-line-clause-replies : goal.returns-in_ok-line-clause-replies
-returns-in_ok-line-clause-replies g c keeps =
+pub returns-in_ok-answer_of-in-Some-clause-replies : goal.returns-in_ok-answer_of-in-Some-clause-replies
+returns-in_ok-answer_of-in-Some-clause-replies g c keeps =
     let self = c.args.self.now in
     let a = g.G.Grammar.meaning self.meter.now.first.grammar in
     let m = model_of self.document in
@@ -25,5 +25,5 @@ returns-in_ok-line-clause-replies g c keeps =
       is_call = is;
       obeys = c.perform-answer.ensures.obeys keeps;
       leaves = refl;
-      writes = ap Some (c.in_ok-line.ensures);
+      writes = ap Some (c.in_ok-answer_of-in-Some.ensures);
     })
