@@ -1,7 +1,7 @@
 // Times calls on a document with a short and with a long text: keystrokes in its middle, each one byte more and then one byte less,
 // and the questions.
 use crate::{Pile, TEXT, pile};
-use document::{Answer, Call, Document};
+use document::{Answer, Call, Desk, Document};
 use editing::Readings;
 use load::room::{UNREAD, UNUSED};
 use meter::{Blank, Pair, Place};
@@ -31,37 +31,28 @@ fn document_meter() -> Meter {
 fn edit(
     document: &mut Document<Readings<()>>,
     meter: &Meter,
-    screen: &mut [u8],
+    desk: &mut Desk<Readings<()>>,
     from: u32,
     to: u32,
     bytes: &[u8],
 ) -> Option<Call<'static>> {
-    let mut reading = UNREAD;
-    match document.perform(
-        meter,
-        screen,
-        &mut [],
-        &mut reading,
-        Call::Edit { from, to, bytes },
-    ) {
+    match document.perform(meter, desk, Call::Edit { from, to, bytes }) {
         Answer::Due(change) => Some(Call::Paint { change }),
         _ => None,
     }
 }
 
 // Types so many pieces of 64 bytes behind each other.
-fn fill(document: &mut Document<Readings<()>>, meter: &Meter, screen: &mut [u8], pieces: u32) {
-    let mut reading = UNREAD;
-    document.perform(
-        meter,
-        screen,
-        &mut [],
-        &mut reading,
-        Call::Open { states: 18 },
-    );
+fn fill(
+    document: &mut Document<Readings<()>>,
+    meter: &Meter,
+    desk: &mut Desk<Readings<()>>,
+    pieces: u32,
+) {
+    document.perform(meter, desk, Call::Open { states: 18 });
     for k in 0..pieces.min(4096) {
-        if let Some(paint) = edit(document, meter, screen, 64 * k, 64 * k, &TEXT) {
-            document.perform(meter, screen, &mut [], &mut reading, paint);
+        if let Some(paint) = edit(document, meter, desk, 64 * k, 64 * k, &TEXT) {
+            document.perform(meter, desk, paint);
         }
     }
 }
@@ -71,23 +62,22 @@ fn time_keys(
     rt: &HostRuntime,
     document: &mut Document<Readings<()>>,
     meter: &Meter,
-    screen: &mut [u8],
+    desk: &mut Desk<Readings<()>>,
     place: u32,
 ) -> io::Result<(u128, u128)> {
-    let mut reading = UNREAD;
     let mut edits = 0u128;
     let mut paints = 0u128;
     for round in 0..KEYS {
         let start = Instant::now(rt)?;
         let paint = if round % 2 == 0 {
-            edit(document, meter, screen, place, place, b"x")
+            edit(document, meter, desk, place, place, b"x")
         } else {
-            edit(document, meter, screen, place, place.saturating_add(1), b"")
+            edit(document, meter, desk, place, place.saturating_add(1), b"")
         };
         edits = edits.saturating_add(start.elapsed(rt)?.as_nanos());
         let start = Instant::now(rt)?;
         if let Some(paint) = paint {
-            document.perform(meter, screen, &mut [], &mut reading, paint);
+            document.perform(meter, desk, paint);
         }
         paints = paints.saturating_add(start.elapsed(rt)?.as_nanos());
     }
@@ -156,12 +146,11 @@ fn report_questions(
     rt: &HostRuntime,
     document: &mut Document<Readings<()>>,
     meter: &Meter,
-    screen: &mut [u8],
+    desk: &mut Desk<Readings<()>>,
 ) -> io::Result<()> {
-    let mut reading = UNREAD;
     for (from, bytes) in [(0, b"("), (document.size().0.saturating_add(1), b")")] {
-        if let Some(paint) = edit(document, meter, screen, from, from, bytes) {
-            document.perform(meter, screen, &mut [], &mut reading, paint);
+        if let Some(paint) = edit(document, meter, desk, from, from, bytes) {
+            document.perform(meter, desk, paint);
         }
     }
     time_question(rt, document, meter, "place", Question::Place)?;
@@ -196,12 +185,18 @@ pub fn report_keystroke(rt: &HostRuntime, pieces: u32) -> io::Result<()> {
     let mut store = vec![in rt.alloc(); 0; 64 * SLOTS]?;
     let mut readings = vec![in rt.alloc(); UNREAD; SLOTS]?;
     let mut screen = vec![in rt.alloc(); 0; CELLS]?;
+    let mut reading = UNREAD;
     let meter = document_meter();
     let mut document = Document::new(&mut slots, &mut store, &mut readings);
-    fill(&mut document, &meter, &mut screen, pieces);
+    let mut desk = Desk {
+        screen: &mut screen,
+        buffer: &mut [],
+        reading: &mut reading,
+    };
+    fill(&mut document, &meter, &mut desk, pieces);
     let (bytes, chunks, height) = document.size();
-    report_questions(rt, &mut document, &meter, &mut screen)?;
-    let (edit, paint) = time_keys(rt, &mut document, &meter, &mut screen, bytes / 2)?;
+    report_questions(rt, &mut document, &meter, &mut desk)?;
+    let (edit, paint) = time_keys(rt, &mut document, &meter, &mut desk, bytes / 2)?;
     println!(rt;
         "keystroke in {bytes} bytes, {chunks} chunks, height {height}: edit {edit} ns, paint {paint} ns"
     )

@@ -14,7 +14,7 @@ use Rattle.slots.proofs.Reading.{whole_sound}
 use Rattle.model.specs.declared.change.Change.{Change}
 use Rattle.model.specs.declared.refusal.Refusal.{Refusal}
 use Rattle.model.specs.declared.refusal.Refusal.TheVariants.{UnknownDue, ShortScreen}
-use Rattle.model.specs.Calls.{unless_due, opened, edit_refusal, change_refusal, edited, same_change, stands, paint_refusal, screen_refusal}
+use Rattle.model.specs.Calls.{opened, edit_refusal, change_refusal, edited, same_change, stands, paint_refusal, screen_refusal}
 use Rattle.model.specs.Edit.{edited_text}
 use Rattle.model.specs.End.{edit_change, EndsFirst}
 use Rattle.model.specs.Laws.{ShowsText}
@@ -77,7 +77,7 @@ agreed c d e =
     λ z. record { place = place z; removed = removed z; inserted = inserted z; end = end z }
 
 standing : (due : Option Change) (c : Change) → stands due c ≡ true → due ≡ Some c
-standing None c e = let no : ◌≡◌ {A = ℕ} 0 1 = cc in absurd (omega arith)
+standing None c e = cc
 standing (Some d) c e = ap Some (agreed d c e)
 
 module _ (a : Automaton) (m : Model) (screen : List ℕ) where
@@ -156,21 +156,13 @@ script_pending a given m screen (r ∷ rs) cells long p =
 
 -- Behind a call that was not refused.
 done_pending : {R : Type 0} (a : Automaton) (s : Snapshot R) (k : Call) → refusal_of a s k ≡ None → Pending a s → ShownSo a (text_of (model_done a s k)) (screen_done a s k) (model_done a s k).due
-done_pending a s call.Size e p = p
 done_pending a s (call.Open states) e p =
     let known = openable (model_of s.document) states e in
     opened_pending a (model_of s.document) s.screen (ap joined (none_usable s.document.tree known.not_opened)) p
 done_pending a s (call.Edit from to bytes) e p = edited_pending a (model_of s.document) s.screen from to bytes.now e p
 done_pending a s (call.Paint c) e p = painted_pending a (model_of s.document) s.screen c e p
-done_pending a s call.Close e p = p
 done_pending a s (call.Script records given) e p = script_pending a given.now (model_of s.document) s.screen records.now (length s.screen) refl p
-done_pending a s (call.Text from to room) e p = p
-done_pending a s (call.Colours from to room) e p = p
-done_pending a s (call.Range from to) e p = p
-done_pending a s (call.Same place bytes) e p = p
-done_pending a s (call.Place place) e p = p
-done_pending a s (call.Spot line column) e p = p
-done_pending a s (call.Partner place) e p = p
+done_pending a s k e p = p
 
 -- A refusal, or none.
 left_pending : (a : Automaton) (o : Option Refusal) (m done : Model) (screen shown : List ℕ) → (o ≡ None → ShownSo a (text_of done) shown done.due) → ShownSo a (text_of m) screen m.due →
@@ -187,27 +179,17 @@ obeyed_pending a μ s e obeys p =
 
 -- A script answers no due.
 no_due_told : {P : Type 0} (r : Result ℕ RecordRefusal) (c : Change) → script_answer r ≡ answer.Due c → P
-no_due_told (Ok done) c e = let no : ◌≡◌ {A = ℕ} 0 1 = cc in absurd (omega arith)
-no_due_told (Err f) c e = let no : ◌≡◌ {A = ℕ} 0 1 = cc in absurd (omega arith)
+no_due_told (Ok done) c e = cc
+no_due_told (Err f) c e = cc
 
 -- Only an edit that was not refused answers a due.
 due_of_edit : {R : Type 0} (a : Automaton) (s : Snapshot R) (k : Call) (o : Option Refusal) → o ≡ refusal_of a s k → (c : Change) → replied o (answer_done a s k) ≡ answer.Due c → EndsFirst a (text s.document) (text_of (left_by o (model_of s.document) (model_done a s k))) c
-due_of_edit a s k (Some f) is c e = let no : ◌≡◌ {A = ℕ} 0 1 = cc in absurd (omega arith)
-due_of_edit a s call.Size None is c e = let no : ◌≡◌ {A = ℕ} 0 1 = cc in absurd (omega arith)
-due_of_edit a s (call.Open states) None is c e = let no : ◌≡◌ {A = ℕ} 0 1 = cc in absurd (omega arith)
+due_of_edit a s k (Some f) is c e = cc
 due_of_edit a s (call.Edit from to bytes) None is c e =
     let same : edit_change a (text s.document) from to bytes.now ≡ c = cc in
     subst (λ (d : Change). EndsFirst a (text s.document) (text_of (model_done a s (call.Edit from to bytes))) d) same (edited_ends a (model_of s.document) s.screen from to bytes.now (sym is))
-due_of_edit a s (call.Paint d) None is c e = let no : ◌≡◌ {A = ℕ} 0 1 = cc in absurd (omega arith)
-due_of_edit a s call.Close None is c e = let no : ◌≡◌ {A = ℕ} 0 1 = cc in absurd (omega arith)
-due_of_edit a s (call.Text from to room) None is c e = let no : ◌≡◌ {A = ℕ} 0 1 = cc in absurd (omega arith)
-due_of_edit a s (call.Colours from to room) None is c e = let no : ◌≡◌ {A = ℕ} 0 1 = cc in absurd (omega arith)
-due_of_edit a s (call.Range from to) None is c e = let no : ◌≡◌ {A = ℕ} 0 1 = cc in absurd (omega arith)
-due_of_edit a s (call.Same place bytes) None is c e = let no : ◌≡◌ {A = ℕ} 0 1 = cc in absurd (omega arith)
-due_of_edit a s (call.Place place) None is c e = let no : ◌≡◌ {A = ℕ} 0 1 = cc in absurd (omega arith)
-due_of_edit a s (call.Spot line column) None is c e = let no : ◌≡◌ {A = ℕ} 0 1 = cc in absurd (omega arith)
-due_of_edit a s (call.Partner place) None is c e = let no : ◌≡◌ {A = ℕ} 0 1 = cc in absurd (omega arith)
 due_of_edit a s (call.Script records given) None is c e = no_due_told (script_result (script_of s records.now given.now)) c e
+due_of_edit a s k None is c e = cc
 
 pub names_its_end : {R : Type 0} (a : Automaton) (μ : Measure R) (s : Snapshot R) (e : Entry R) → Obeys a μ s e → NamesItsEnd a s e
 names_its_end a μ s e obeys c is =
@@ -223,7 +205,7 @@ balanced_tree T =
 
 shows_then : (a : Automaton) (t screen : List ℕ) (due : Option Change) → ShownSo a t screen due → due ≡ None → ShowsText a t screen
 shows_then a t screen None p e = p
-shows_then a t screen (Some c) p e = let no : ◌≡◌ {A = ℕ} 0 1 = cc in absurd (omega arith)
+shows_then a t screen (Some c) p e = cc
 
 pub stands_so : {R : Type 0} (a : Automaton) (μ : Measure R) (s : Snapshot R) → Pending a s → Keeps s.document μ → Stands a μ s
 stands_so a μ s p kept =
@@ -276,18 +258,7 @@ by_records a μ before (call.Script records given) after p done = record {
   stepwise = done.stepwise;
   each = All-from_recursion (Stands a μ) done.steps (steps_stand a μ given.now before records.now done.steps after done.stepwise p (recursion_from_All (λ s. Keeps s.document μ) done.steps done.each));
 }
-by_records a μ before call.Size after p done = tt
-by_records a μ before (call.Open states) after p done = tt
-by_records a μ before (call.Edit from to bytes) after p done = tt
-by_records a μ before (call.Paint c) after p done = tt
-by_records a μ before call.Close after p done = tt
-by_records a μ before (call.Text from to room) after p done = tt
-by_records a μ before (call.Colours from to room) after p done = tt
-by_records a μ before (call.Range from to) after p done = tt
-by_records a μ before (call.Same place bytes) after p done = tt
-by_records a μ before (call.Place place) after p done = tt
-by_records a μ before (call.Spot line column) after p done = tt
-by_records a μ before (call.Partner place) after p done = tt
+by_records a μ before k after p done = tt
 
 -- One call more.
 pub log_goes_on : {R : Type 0} (a : Automaton) (μ : Measure R) (first : Snapshot R) (log : List (Entry R)) (s : Snapshot R) (e : Entry R) → Follows a μ first log → latest first log ≡ s →

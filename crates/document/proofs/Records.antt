@@ -1,5 +1,5 @@
 -- A record that is not refused: what is known of it.
-use Rattle.std.proofs.Common.{◌≡◌, ℕ, ◌≤◌, ◌&&◌, leb, List, length, Some, None, Option, refl, arith}
+use Rattle.std.proofs.Common.{◌≡◌, ℕ, ◌≤◌, ◌&&◌, leb, List, length, Some, None, Option, refl}
 use Rattle.std.proofs.lemmas.Bool.{and_parts, leb-true}
 use Rattle.model.specs.declared.change.Change.{Change}
 use Rattle.model.specs.declared.refusal.Refusal.{Refusal}
@@ -14,12 +14,12 @@ use Rattle.editing.proofs.Planning.{Allowed, passed, was_allowed}
 -- An edit is not refused only where no due stands.
 pub no_due : (due : Option Change) (next : Option Refusal) → unless_due due next ≡ None → (due ≡ None) × (next ≡ None)
 no_due None next e = (refl, e)
-no_due (Some c) next e = let no : ◌≡◌ {A = ℕ} 0 1 = cc in absurd (omega arith)
+no_due (Some c) next e = cc
 
 -- The next is asked only where the first is no refusal.
 pub next_asked : (o next : Option Refusal) → else_refused o next ≡ None → (o ≡ None) × (next ≡ None)
 next_asked None next e = (refl, e)
-next_asked (Some f) next e = let no : ◌≡◌ {A = ℕ} 0 1 = cc in absurd (omega arith)
+next_asked (Some f) next e = cc
 
 -- What was looked at before a record was carried out.
 pub record Accepted (cells : ℕ) (given : List ℕ) (m : Model) (r : Replacement) : Type 0 where

@@ -17,6 +17,7 @@ use Rattle.model.specs.Script.{Scripted, scripted, script_screen}
 use Rattle.brackets.specs.Partner.{partner}
 use Rattle.positions.specs.Position.{line_of, column_of, spot}
 use Rattle.tree.specs.Public.{tree_in}
+use Rattle.document.specs.declared.desk.Desk.{Desk}
 use Rattle.document.specs.declared.document.script.RecordRefusal.{RecordRefusal}
 use Rattle.document.specs.declared.call.Call.{Call}
 use Rattle.document.specs.declared.call.Call.TheVariants as call
@@ -170,7 +171,10 @@ Follows a μ first (e ∷ log) =
     Follows a μ first log × (Obeys a μ (latest first log) e × (NamesItsEnd a (latest first log) e
     × (Stands a μ e.after × ByRecords a (Stands a μ) (latest first log) e.call e.after)))
 
--- The memory lent to the calls.
+-- The memory lent to the calls, on a desk and in a snapshot.
+abbrev pub lent_by : {R : Type 0} → Desk R → List ℕ × List ℕ × R
+lent_by desk = (desk.screen.now, desk.buffer.now, desk.reading.now)
+
 abbrev pub lent_of : {R : Type 0} → Snapshot R → List ℕ × List ℕ × R
 lent_of s = (s.screen, s.buffer, s.reading)
 

@@ -3,12 +3,14 @@
 #![tactic(auto)]
 
 pub mod call;
+pub mod desk;
 pub mod document;
 pub mod laws;
 pub mod replaying;
 pub mod tokens;
 
 pub use call::{Answer, Call};
+pub use desk::Desk;
 pub use document::Document;
 pub use document::script::RecordRefusal;
 pub use replaying::replay;

@@ -1,9 +1,11 @@
 // A whole log at once: a new document over lent memory, and calls carried out on it one after another.
 ghost use Rattle.std.specs.Prelude.{◌≡◌, ℕ, min, List, length, take, drop};
-ghost use Rattle.editing.specs.Content.{document_measure};
-ghost use Rattle.document.specs.Log.{Replayed};
+ghost use Rattle.editing.specs.Content.{scale_of};
+ghost use Rattle.document.specs.Snapshot.{SameDesk};
+ghost use Rattle.document.specs.Log.{lent_by, Replayed};
 
 use crate::call::{Answer, Call};
+use crate::desk::Desk;
 use crate::document::Document;
 use editing::Readings;
 use grammar::Grammar;
@@ -18,20 +20,19 @@ pub fn replay<X: Copy, G: Grammar, H: Meter<Reading = X>>(
     slots: &mut [Slot<Readings<X>>],
     store: &mut [u8],
     readings: &mut [Readings<X>],
-    screen: &mut [u8],
-    buffer: &mut [u8],
-    reading: &mut Readings<X>,
+    desk: &mut Desk<Readings<X>>,
     calls: &[Call],
     answers: &mut [Answer],
 ) -> usize
     ensures count { result ≡ min (length calls.now) (length answers.old) }
     ensures rest { drop result answers.new ≡ drop result answers.old }
-    ensures law { Replayed (G.Grammar.meaning meter.now.first.grammar) (document_measure (G.Grammar.meaning meter.now.first.grammar) (H.Meter.scale meter.now.second.second)) (take result calls.now) (take result answers.new) (screen.old, buffer.old, reading.old) (screen.new, buffer.new, reading.new) }
+    ensures law { Replayed (G.meaning meter.now.first.grammar) (scale_of G.meaning H.scale meter.now) (take result calls.now) (take result answers.new) (lent_by desk.old) (lent_by desk.new) }
+    ensures lent { SameDesk desk.old desk.new }
 {
     let mut document = Document::new(slots, store, readings);
     let count = calls.len().min(answers.len());
-    for i in 0..count {
-        answers[i] = document.perform(meter, screen, buffer, reading, calls[i]);
+    for (i, call) in calls[..count].iter().enumerate() {
+        answers[i] = document.perform(meter, desk, *call);
     }
     count
 }

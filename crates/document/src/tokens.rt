@@ -23,14 +23,11 @@ impl Due {
     }
 }
 
-// A script that was refused at one of its records: the records before it are done, and the pass comes back.
-pub struct ScriptRefused {
-    pub back: Pass,
-    pub record: RecordRefusal,
+// A refused call gives back what it was given.
+pub struct Refused<T, E = Refusal> {
+    pub back: T,
+    pub refusal: E,
 }
 
-// A refused call gives back what it was given.
-pub struct Refused<T> {
-    pub back: T,
-    pub refusal: Refusal,
-}
+// A script that was refused at one of its records: the records before it are done, and the pass comes back.
+pub type ScriptRefused = Refused<Pass, RecordRefusal>;

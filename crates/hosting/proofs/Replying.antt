@@ -11,17 +11,5 @@ use Rattle.hosting.specs.Replies.{IsCall, Readings, CarriesOut, Replies}
 pub carried : {X : Type 0} (a : Automaton) (μ : Measure (Readings X)) (r : Asked) (before after : Snapshot (Readings X)) (out : Option (List ℕ)) (states : ℕ) (standing : Option Change) (cells : ℕ) (k : Call) →
     IsCall states standing cells r k → CarriesOut a μ r before after out → Replies a μ r before after out
 carried a μ PassedOver before after out states standing cells k is c = absurd is
-carried a μ Open before after out states standing cells k is c = c
-carried a μ (Edit from to bytes) before after out states standing cells k is c = c
-carried a μ (Paint due) before after out states standing cells k is c = c
-carried a μ Close before after out states standing cells k is c = c
-carried a μ (Text from to room) before after out states standing cells k is c = c
-carried a μ (Colours from to room) before after out states standing cells k is c = c
-carried a μ Size before after out states standing cells k is c = c
 carried a μ (Screen shown) before after out states standing cells k is c = absurd is
-carried a μ (Script text records) before after out states standing cells k is c = c
-carried a μ (Range from to) before after out states standing cells k is c = c
-carried a μ (Same place bytes) before after out states standing cells k is c = c
-carried a μ (Place place) before after out states standing cells k is c = c
-carried a μ (Spot line column) before after out states standing cells k is c = c
-carried a μ (Partner place) before after out states standing cells k is c = c
+carried a μ r before after out states standing cells k is c = c

@@ -2,6 +2,7 @@
 pub mod Piles
 pub mod Lent
 pub mod Replies
+pub mod Host
 pub mod Laws
 pub mod Conversing
 pub mod Hosted

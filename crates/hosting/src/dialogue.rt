@@ -2,21 +2,17 @@
 ghost use Rattle.std.specs.Prelude.{◌≡◌, is_ok, IfOk, OnOk, option_map, string_bytes};
 ghost use Rattle.std.specs.Io.KnownBytes.{Appends};
 ghost use Rattle.document.specs.Content.{Keeps};
-ghost use Rattle.document.specs.Snapshot.{Snapshot};
 ghost use Rattle.editing.specs.Content.{document_measure};
 ghost use Rattle.measure.specs.Blank.{blank_measure};
 ghost use Rattle.session.specs.Request.{request_of};
 ghost use Rattle.hosting.specs.Conversing.{problem_line, answer_line as line_of_answer, AnswersLine, ReadsNext, Conversation};
+ghost use Rattle.hosting.specs.Host.{here, SameHost};
 
-use crate::reply::reply;
-use document::Document;
-use editing::Readings;
+use crate::host::Host;
 use grammar::Grammar;
-use meter::Blank;
 use session::{Problem, read_request};
 use std::alloc::Global;
 use std::io::{BufRead, Result, Write};
-use walks::DocumentMeter;
 
 // What is written of a line that cannot be read.
 fn problem_text(heap: Global, number: u64, problem: Problem) -> Result<String>
@@ -37,35 +33,6 @@ fn write_answer<W: Write>(answer: Option<Vec<u8>>, out: &mut W) -> Result<()>
     Ok(())
 }
 
-// Carries out one line, and says whether it could be read.
-fn answer_line<G: Grammar, W: Write>(
-    heap: Global,
-    meter: &DocumentMeter<G, Blank>,
-    document: &mut Document<Readings<()>>,
-    screen: &mut [u8],
-    buffer: &mut [u8],
-    reading: &mut Readings<()>,
-    number: u64,
-    line: &[u8],
-    out: &mut W,
-) -> Result<bool>
-    ensures readable { IfOk result (λ readable. readable ≡ is_ok (request_of line.now)) }
-    ensures answers { Keeps document.old (document_measure (G.meaning meter.now.first.grammar) blank_measure) → OnOk result (AnswersLine (G.meaning meter.now.first.grammar) (document_measure (G.meaning meter.now.first.grammar) blank_measure) number (request_of line.now) (record { document = document.old; screen = screen.old; buffer = buffer.old; reading = reading.old }) (record { document = document.new; screen = screen.new; buffer = buffer.new; reading = reading.new }) (W.contents out.old) (W.contents out.new)) }
-    ensures keeps { Keeps document.old (document_measure (G.meaning meter.now.first.grammar) blank_measure) → Keeps document.new (document_measure (G.meaning meter.now.first.grammar) blank_measure) }
-{
-    match read_request(heap, line)? {
-        Ok(request) => {
-            let answer = reply(heap, meter, document, screen, buffer, reading, &request)?;
-            write_answer(answer, out)?;
-            Ok(true)
-        }
-        Err(problem) => {
-            out.write_all(problem_text(heap, number, problem)?.as_bytes())?;
-            Ok(false)
-        }
-    }
-}
-
 // Reads the next line in the place of another, without its line feed; says whether there is one.
 #[tactic(auto, using(crate::proofs::Conversing::reads_line, crate::proofs::Conversing::reads_last))]
 fn read_line<R: BufRead>(lines: &mut R, line: &mut Vec<u8>) -> Result<bool>
@@ -82,29 +49,41 @@ fn read_line<R: BufRead>(lines: &mut R, line: &mut Vec<u8>) -> Result<bool>
     Ok(true)
 }
 
-// Says whether every line could be read.
-pub fn converse<G: Grammar, R: BufRead, W: Write>(
-    heap: Global,
-    meter: &DocumentMeter<G, Blank>,
-    document: &mut Document<Readings<()>>,
-    screen: &mut [u8],
-    buffer: &mut [u8],
-    reading: &mut Readings<()>,
-    lines: &mut R,
-    out: &mut W,
-) -> Result<bool>
-    ensures conversed { Keeps document.old (document_measure (G.meaning meter.now.first.grammar) blank_measure) → IfOk result (λ readable. Conversation (G.meaning meter.now.first.grammar) (document_measure (G.meaning meter.now.first.grammar) blank_measure) (R.remaining lines.old) (W.contents out.old) (W.contents out.new) (record { document = document.old; screen = screen.old; buffer = buffer.old; reading = reading.old }) (record { document = document.new; screen = screen.new; buffer = buffer.new; reading = reading.new }) readable) }
-    ensures keeps { Keeps document.old (document_measure (G.meaning meter.now.first.grammar) blank_measure) → Keeps document.new (document_measure (G.meaning meter.now.first.grammar) blank_measure) }
-{
-    let mut readable = true;
-    let mut line = Vec::new(heap);
-    for number in 1..u64::MAX {
-        if !read_line(lines, &mut line)? {
-            break;
+impl<G: Grammar> Host<'_, G> {
+    // Carries out one line, and says whether it could be read.
+    fn answer_line<W: Write>(&mut self, number: u64, line: &[u8], out: &mut W) -> Result<bool>
+        ensures readable { IfOk result (λ readable. readable ≡ is_ok (request_of line.now)) }
+        ensures answers { let a = G.meaning self.old.meter.now.first.grammar in let μ = document_measure a blank_measure in Keeps self.old.document μ → OnOk result (AnswersLine a μ number (request_of line.now) (here self.old) (here self.new) (W.contents out.old) (W.contents out.new)) }
+        ensures keeps { let μ = document_measure (G.meaning self.old.meter.now.first.grammar) blank_measure in Keeps self.old.document μ → Keeps self.new.document μ }
+        ensures same { SameHost self.old self.new }
+    {
+        match read_request(self.heap, line)? {
+            Ok(request) => {
+                let answer = self.reply(&request)?;
+                write_answer(answer, out)?;
+                Ok(true)
+            }
+            Err(problem) => {
+                out.write_all(problem_text(self.heap, number, problem)?.as_bytes())?;
+                Ok(false)
+            }
         }
-        readable &= answer_line(
-            heap, meter, document, screen, buffer, reading, number, &line, out,
-        )?;
     }
-    Ok(readable)
+
+    // Answers all lines, and says whether every one could be read.
+    pub fn converse<R: BufRead, W: Write>(&mut self, lines: &mut R, out: &mut W) -> Result<bool>
+        ensures conversed { let a = G.meaning self.old.meter.now.first.grammar in let μ = document_measure a blank_measure in Keeps self.old.document μ → IfOk result (λ readable. Conversation a μ (R.remaining lines.old) (W.contents out.old) (W.contents out.new) (here self.old) (here self.new) readable) }
+        ensures keeps { let μ = document_measure (G.meaning self.old.meter.now.first.grammar) blank_measure in Keeps self.old.document μ → Keeps self.new.document μ }
+        ensures same { SameHost self.old self.new }
+    {
+        let mut readable = true;
+        let mut line = Vec::new(self.heap);
+        for number in 1..u64::MAX {
+            if !read_line(lines, &mut line)? {
+                break;
+            }
+            readable &= self.answer_line(number, &line, out)?;
+        }
+        Ok(readable)
+    }
 }

@@ -4,12 +4,14 @@
 #![tactic(auto)]
 
 pub mod dialogue;
+pub mod host;
 pub mod laws;
 pub mod options;
 pub mod piles;
 pub mod reply;
 pub mod room;
 
+pub use host::Host;
 pub use options::{Misread, Options};
 pub use piles::{Work, with_pile};
 pub use room::run_session;

@@ -72,10 +72,9 @@ fn pile_named(word: &str) -> Option<Pile>
 fn begins_with_digit(word: &str) -> bool
     ensures { result ≡ begins_so word.now }
 {
-    match word.as_bytes() {
-        [first, ..] => *first >= b'0' && *first <= b'9',
-        [] => false,
-    }
+    word.as_bytes()
+        .first()
+        .is_some_and(|byte| byte.is_ascii_digit())
 }
 
 impl Options {
@@ -192,18 +191,12 @@ impl Options {
     pub fn store(&self) -> usize
         ensures { result ≡ unwrap_or self.now.store (64 * unwrap_or self.now.slots USUAL_SLOTS) }
     {
-        match self.store {
-            Some(count) => count as usize,
-            None => 64 * self.slots(),
-        }
+        self.store.map_or(64 * self.slots(), |count| count as usize)
     }
 
     pub fn readings(&self) -> usize
         ensures { result ≡ unwrap_or self.now.readings (unwrap_or self.now.slots USUAL_SLOTS) }
     {
-        match self.readings {
-            Some(count) => count as usize,
-            None => self.slots(),
-        }
+        self.readings.map_or(self.slots(), |count| count as usize)
     }
 }

@@ -1,22 +1,21 @@
 // What a host does about a request, and what it writes as the answer.
 ghost use Rattle.std.specs.Prelude.{◌≡◌, ◌-◌, min, take, length, unwrap_or, option_map, IfOk, MatchOption, IsTrue};
 ghost use Rattle.document.specs.Content.{Keeps};
-ghost use Rattle.document.specs.Snapshot.{Snapshot};
 ghost use Rattle.editing.specs.Content.{document_measure};
 ghost use Rattle.measure.specs.Blank.{blank_measure};
 ghost use Rattle.session.specs.Asked.{asked as asked_by};
 ghost use Rattle.hosting.specs.Replies.{IsCall, IsNoCall, digits, written_of, Replies};
+ghost use Rattle.hosting.specs.Host.{here, SameHost};
 
-use document::{Answer, Call, Document};
+use crate::host::Host;
+use document::{Answer, Call, Desk};
 use editing::Readings;
 use grammar::Grammar;
-use meter::Blank;
 use model::Change;
 use notation::{digits_text, quoted_text};
 use report::{summarize, summary_text};
 use session::{Request, answer_text};
 use std::alloc::{AllocError, Global};
-use walks::DocumentMeter;
 
 // A due that never stands.
 const NO_CHANGE: Change = Change {
@@ -39,20 +38,19 @@ fn answer_of(
     heap: Global,
     call: Call,
     answer: Answer,
-    buffer: &[u8],
-    reading: &Readings<()>,
+    desk: &Desk<Readings<()>>,
 ) -> Result<Vec<u8>, AllocError>
-    ensures { IfOk result (λ v. v.items ≡ written_of call.entry answer buffer.now reading.now) }
+    ensures { IfOk result (λ v. v.items ≡ written_of call.entry answer desk.now.buffer.now desk.now.reading.now) }
 {
     match (call, answer) {
         (Call::Text { from, to, .. }, Answer::Written) => {
-            quoted_text(heap, front(buffer, from, to))
+            quoted_text(heap, front(desk.buffer, from, to))
         }
         (Call::Colours { from, to, .. }, Answer::Written) => {
-            digits_text(heap, front(buffer, from, to))
+            digits_text(heap, front(desk.buffer, from, to))
         }
         (Call::Range { .. }, Answer::Written) => {
-            let summary = summarize(&reading.first, &reading.second.first);
+            let summary = summarize(&desk.reading.first, &desk.reading.second.first);
             Ok(summary_text(heap, summary)?.into_bytes())
         }
         _ => Ok(answer_text(heap, answer)?.into_bytes()),
@@ -63,10 +61,7 @@ fn answer_of(
 fn room_of(asked: Option<u32>, cells: usize) -> usize
     ensures { result ≡ unwrap_or asked cells }
 {
-    match asked {
-        Some(room) => room as usize,
-        None => cells,
-    }
+    asked.map_or(cells, |room| room as usize)
 }
 
 // The call that a request is, with a grammar of so many states; nothing where it is none.
@@ -78,80 +73,74 @@ fn call_of<'a>(
 ) -> Option<Call<'a>>
     ensures { MatchOption result (IsNoCall (asked_by request.now)) (λ k. IsCall states standing cells (asked_by request.now) k) }
 {
-    match request {
+    match *request {
         Request::PassedOver | Request::Screen(_) => None,
         Request::Open => Some(Call::Open { states }),
-        Request::Edit { from, to, bytes } => Some(Call::Edit {
-            from: *from,
-            to: *to,
-            bytes,
-        }),
-        Request::Paint(change) => Some(Call::Paint {
-            change: change.unwrap_or(standing.unwrap_or(NO_CHANGE)),
-        }),
+        Request::Edit {
+            from,
+            to,
+            ref bytes,
+        } => Some(Call::Edit { from, to, bytes }),
+        Request::Paint(change) => {
+            let change = change.or(standing).unwrap_or(NO_CHANGE);
+            Some(Call::Paint { change })
+        }
         Request::Close => Some(Call::Close),
-        Request::Text { from, to, room } => Some(Call::Text {
-            from: *from,
-            to: *to,
-            room: room_of(*room, cells),
-        }),
-        Request::Colours { from, to, room } => Some(Call::Colours {
-            from: *from,
-            to: *to,
-            room: room_of(*room, cells),
-        }),
+        Request::Text { from, to, room } => {
+            let room = room_of(room, cells);
+            Some(Call::Text { from, to, room })
+        }
+        Request::Colours { from, to, room } => {
+            let room = room_of(room, cells);
+            Some(Call::Colours { from, to, room })
+        }
         Request::Size => Some(Call::Size),
-        Request::Script { text, records } => Some(Call::Script { records, text }),
-        Request::Range { from, to } => Some(Call::Range {
-            from: *from,
-            to: *to,
-        }),
-        Request::Same { place, bytes } => Some(Call::Same {
-            place: *place,
-            bytes,
-        }),
-        Request::Place(place) => Some(Call::Place { place: *place }),
-        Request::Spot { line, column } => Some(Call::Spot {
-            line: *line,
-            column: *column,
-        }),
-        Request::Partner(place) => Some(Call::Partner { place: *place }),
+        Request::Script {
+            ref text,
+            ref records,
+        } => Some(Call::Script { records, text }),
+        Request::Range { from, to } => Some(Call::Range { from, to }),
+        Request::Same { place, ref bytes } => Some(Call::Same { place, bytes }),
+        Request::Place(place) => Some(Call::Place { place }),
+        Request::Spot { line, column } => Some(Call::Spot { line, column }),
+        Request::Partner(place) => Some(Call::Partner { place }),
     }
 }
 
 // The first cells of the screen: as many as are asked for, or as the text has bytes; never more than there are.
-fn shown(heap: Global, screen: &[u8], asked: Option<u32>, text: u32) -> Result<Vec<u8>, AllocError>
-    ensures { IfOk result (λ v. v.items ≡ digits (take (min (unwrap_or asked text) (length screen.now)) screen.now)) }
+fn shown(
+    heap: Global,
+    desk: &Desk<Readings<()>>,
+    asked: Option<u32>,
+    text: u32,
+) -> Result<Vec<u8>, AllocError>
+    ensures { let screen = desk.now.screen.now in IfOk result (λ v. v.items ≡ digits (take (min (unwrap_or asked text) (length screen)) screen)) }
 {
-    let count = (asked.unwrap_or(text) as usize).min(screen.len());
-    digits_text(heap, &screen[..count])
+    let count = (asked.unwrap_or(text) as usize).min(desk.screen.len());
+    digits_text(heap, &desk.screen[..count])
 }
 
-// Carries a request out; gives what is to be written, nothing for a line that is passed over.
-pub fn reply<G: Grammar>(
-    heap: Global,
-    meter: &DocumentMeter<G, Blank>,
-    document: &mut Document<Readings<()>>,
-    screen: &mut [u8],
-    buffer: &mut [u8],
-    reading: &mut Readings<()>,
-    request: &Request,
-) -> Result<Option<Vec<u8>>, AllocError>
-    ensures replies { Keeps document.old (document_measure (G.meaning meter.now.first.grammar) blank_measure) → IfOk result (λ out. Replies (G.meaning meter.now.first.grammar) (document_measure (G.meaning meter.now.first.grammar) blank_measure) (asked_by request.now) (record { document = document.old; screen = screen.old; buffer = buffer.old; reading = reading.old }) (record { document = document.new; screen = screen.new; buffer = buffer.new; reading = reading.new }) (option_map (λ v. v.items) out)) }
-    ensures keeps { Keeps document.old (document_measure (G.meaning meter.now.first.grammar) blank_measure) → Keeps document.new (document_measure (G.meaning meter.now.first.grammar) blank_measure) }
-{
-    let states = meter.first.grammar.count();
-    match call_of(states, document.standing(), buffer.len(), request) {
-        Some(call) => {
-            let answer = document.perform(meter, screen, buffer, reading, call);
-            Ok(Some(answer_of(heap, call, answer, buffer, reading)?))
-        }
-        None => match request {
-            Request::Screen(asked) => {
-                let (bytes, _, _) = document.size();
-                Ok(Some(shown(heap, screen, *asked, bytes)?))
+impl<G: Grammar> Host<'_, G> {
+    // Carries a request out; gives what is to be written, nothing for a line that is passed over.
+    pub fn reply(&mut self, request: &Request) -> Result<Option<Vec<u8>>, AllocError>
+        ensures replies { let a = G.meaning self.old.meter.now.first.grammar in let μ = document_measure a blank_measure in Keeps self.old.document μ → IfOk result (λ out. Replies a μ (asked_by request.now) (here self.old) (here self.new) (option_map (λ v. v.items) out)) }
+        ensures keeps { let μ = document_measure (G.meaning self.old.meter.now.first.grammar) blank_measure in Keeps self.old.document μ → Keeps self.new.document μ }
+        ensures same { SameHost self.old self.new }
+    {
+        let states = self.meter.first.grammar.count();
+        let standing = self.document.standing();
+        match call_of(states, standing, self.desk.buffer.len(), request) {
+            Some(call) => {
+                let answer = self.document.perform(self.meter, &mut self.desk, call);
+                Ok(Some(answer_of(self.heap, call, answer, &self.desk)?))
             }
-            _ => Ok(None),
-        },
+            None => match request {
+                Request::Screen(asked) => {
+                    let (bytes, _, _) = self.document.size();
+                    Ok(Some(shown(self.heap, &self.desk, *asked, bytes)?))
+                }
+                _ => Ok(None),
+            },
+        }
     }
 }

@@ -3,10 +3,10 @@ ghost use Rattle.std.specs.Prelude.{◌≡◌, IfOk};
 ghost use Rattle.hosting.specs.Piles.{automaton_of};
 ghost use Rattle.hosting.specs.Hosted.{pile_lent, Hosted};
 
-use crate::dialogue::converse;
+use crate::host::Host;
 use crate::options::Options;
 use crate::piles::{Work, with_pile};
-use document::Document;
+use document::{Desk, Document};
 use grammar::Grammar;
 use load::room::{UNREAD, UNUSED};
 use meter::{Blank, Pair, Place};
@@ -47,17 +47,19 @@ impl<R: BufRead, W: Write> Work for Session<'_, '_, '_, R, W> {
         let mut screen = vec![in heap; 0; self.options.screen()]?;
         let mut buffer = vec![in heap; 0; BUFFER]?;
         let mut reading = UNREAD;
-        let mut document = Document::new(&mut slots, &mut store, &mut readings);
-        converse(
+        let document = Document::new(&mut slots, &mut store, &mut readings);
+        let desk = Desk {
+            screen: &mut screen,
+            buffer: &mut buffer,
+            reading: &mut reading,
+        };
+        let mut host = Host {
             heap,
-            &meter,
-            &mut document,
-            &mut screen,
-            &mut buffer,
-            &mut reading,
-            self.lines,
-            self.out,
-        )
+            meter: &meter,
+            document,
+            desk,
+        };
+        host.converse(self.lines, self.out)
     }
 }
 

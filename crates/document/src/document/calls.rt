@@ -8,7 +8,7 @@ ghost use Rattle.model.specs.Calls.{answered, refusal_in, open_refusal, opened, 
 ghost use Rattle.model.specs.End.{edit_change};
 ghost use Rattle.model.specs.Paint.{painted};
 ghost use Rattle.tree.specs.Public.{tree_in};
-ghost use Rattle.editing.specs.Content.{document_measure};
+ghost use Rattle.editing.specs.Content.{scale_of};
 ghost use Rattle.document.specs.Content.{model_of, new_model, text as text_of, Keeps, size_of, Unchanged};
 ghost use Rattle.document.specs.Records.{script_result, RecordByRecord};
 ghost use Rattle.document.specs.Tokens.{given_back, script_told};
@@ -93,7 +93,7 @@ impl<X: Copy> Document<'_, Readings<X>> {
         &mut self,
         meter: &DocumentMeter<G, H>,
     ) -> Result<Pass, Refusal>
-        ensures decides { refusal_in result ≡ open_refusal (model_of self.old) (G.Grammar.meaning meter.now.first.grammar).count }
+        ensures decides { refusal_in result ≡ open_refusal (model_of self.old) (G.meaning meter.now.first.grammar).count }
         ensures after { model_of self.new ≡ (if is_ok result then opened (model_of self.old) else model_of self.old) }
         ensures keeps { (μ : Measure _) → Keeps self.old μ → Keeps self.new μ }
         ensures same { OnErr result (Unchanged self.old self.new) }
@@ -114,8 +114,8 @@ impl<X: Copy> Document<'_, Readings<X>> {
         ensures decides { given_back result ≡ edit_refusal (model_of self.old) from to bytes.now }
         ensures after { IfOk result (λ d. model_of self.new ≡ edited (model_of self.old) from to bytes.now d.change) }
         ensures numbers { IfOk result (λ d. (d.change.place ≡ from) × ((d.change.removed ≡ to - from) × (d.change.inserted ≡ length bytes.now))) }
-        ensures ends { IfOk result (λ d. Keeps self.old (document_measure (G.Grammar.meaning meter.now.first.grammar) (H.Meter.scale meter.now.second.second)) → d.change ≡ edit_change (G.Grammar.meaning meter.now.first.grammar) (text_of self.old) from to bytes.now) }
-        ensures keeps { Keeps self.old (document_measure (G.Grammar.meaning meter.now.first.grammar) (H.Meter.scale meter.now.second.second)) → Keeps self.new (document_measure (G.Grammar.meaning meter.now.first.grammar) (H.Meter.scale meter.now.second.second)) }
+        ensures ends { IfOk result (λ d. Keeps self.old (scale_of G.meaning H.scale meter.now) → d.change ≡ edit_change (G.meaning meter.now.first.grammar) (text_of self.old) from to bytes.now) }
+        ensures keeps { let μ = scale_of G.meaning H.scale meter.now in Keeps self.old μ → Keeps self.new μ }
         ensures same { OnErr result (Unchanged self.old self.new) }
     {
         match self.try_edit(meter, from, to, bytes) {
@@ -140,7 +140,7 @@ impl<X: Copy> Document<'_, Readings<X>> {
         ensures decides { given_back result ≡ paint_refusal (model_of self.old) due.change (length screen.old) }
         ensures after { model_of self.new ≡ (if is_ok result then settled (model_of self.old) else model_of self.old) }
         ensures tree { self.new.tree ≡ self.old.tree }
-        ensures painted { OnOk result (Keeps self.old (document_measure (G.Grammar.meaning meter.now.first.grammar) (H.Meter.scale meter.now.second.second)) → screen.new ≡ painted (G.Grammar.meaning meter.now.first.grammar) (text_of self.old) due.change screen.old) }
+        ensures painted { OnOk result (Keeps self.old (scale_of G.meaning H.scale meter.now) → screen.new ≡ painted (G.meaning meter.now.first.grammar) (text_of self.old) due.change screen.old) }
         ensures same { IfErr result (λ f. (f.back ≡ due) × (Unchanged self.old self.new × (screen.new ≡ screen.old))) }
     {
         match self.try_paint(meter, due.change, screen) {
@@ -163,13 +163,16 @@ impl<X: Copy> Document<'_, Readings<X>> {
     ) -> Result<(usize, Pass), ScriptRefused>
         ensures answer { script_told result ≡ script_result (scripted (length screen.old) text.now (model_of self.old) records.now) }
         ensures after { model_of self.new ≡ (scripted (length screen.old) text.now (model_of self.old) records.now).after }
-        ensures painted { Keeps self.old (document_measure (G.Grammar.meaning meter.now.first.grammar) (H.Meter.scale meter.now.second.second)) → screen.new ≡ script_screen (G.Grammar.meaning meter.now.first.grammar) (length screen.old) text.now (model_of self.old) screen.old records.now }
-        ensures keeps { Keeps self.old (document_measure (G.Grammar.meaning meter.now.first.grammar) (H.Meter.scale meter.now.second.second)) → Keeps self.new (document_measure (G.Grammar.meaning meter.now.first.grammar) (H.Meter.scale meter.now.second.second)) }
-        ensures records { (buffer : List ℕ) (reading : _) → Keeps self.old (document_measure (G.Grammar.meaning meter.now.first.grammar) (H.Meter.scale meter.now.second.second)) → RecordByRecord (G.Grammar.meaning meter.now.first.grammar) (λ s. Keeps s.document (document_measure (G.Grammar.meaning meter.now.first.grammar) (H.Meter.scale meter.now.second.second))) text.now records.now (record { document = self.old; screen = screen.old; buffer = buffer; reading = reading }) (record { document = self.new; screen = screen.new; buffer = buffer; reading = reading }) }
+        ensures painted { Keeps self.old (scale_of G.meaning H.scale meter.now) → screen.new ≡ script_screen (G.meaning meter.now.first.grammar) (length screen.old) text.now (model_of self.old) screen.old records.now }
+        ensures keeps { let μ = scale_of G.meaning H.scale meter.now in Keeps self.old μ → Keeps self.new μ }
+        ensures records { let μ = scale_of G.meaning H.scale meter.now in (buffer : List ℕ) (reading : _) → Keeps self.old μ → RecordByRecord (G.meaning meter.now.first.grammar) (λ s. Keeps s.document μ) text.now records.now (record { document = self.old; screen = screen.old; buffer = buffer; reading = reading }) (record { document = self.new; screen = screen.new; buffer = buffer; reading = reading }) }
     {
         match self.try_script(meter, screen, records, text) {
             Ok(done) => Ok((done, pass)),
-            Err(record) => Err(ScriptRefused { back: pass, record }),
+            Err(refusal) => Err(Refused {
+                back: pass,
+                refusal,
+            }),
         }
     }
 
@@ -182,7 +185,7 @@ impl<X: Copy> Document<'_, Readings<X>> {
         out: &mut [u8],
     ) -> Result<(), Refusal>
         ensures answer { result ≡ answered (range_refusal (model_of self.now) from to (length out.old)) tt }
-        ensures written { OnOk result (Keeps self.now (document_measure (G.Grammar.meaning meter.now.first.grammar) (H.Meter.scale meter.now.second.second)) → out.new ≡ with_front (between from to (colours_of (G.Grammar.meaning meter.now.first.grammar) (text_of self.now))) out.old) }
+        ensures written { OnOk result (Keeps self.now (scale_of G.meaning H.scale meter.now) → out.new ≡ with_front (between from to (colours_of (G.meaning meter.now.first.grammar) (text_of self.now))) out.old) }
         ensures same { OnErr result (out.new ≡ out.old) }
     {
         copy_colours(&self.tree, meter, from, to, out)

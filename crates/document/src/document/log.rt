@@ -1,12 +1,15 @@
 // Calls carried out one after another, and the law over logs of calls.
-ghost use Rattle.std.specs.Prelude.{◌≡◌, List, ◌∷◌};
-ghost use Rattle.model.specs.Calls.{refusal_in};
-ghost use Rattle.editing.specs.Content.{document_measure};
-ghost use Rattle.document.specs.Content.{Keeps};
-ghost use Rattle.document.specs.Snapshot.{Snapshot};
-ghost use Rattle.document.specs.Log.{Entry, Obeys, ByRecords, ObeysInText, replied, latest, Follows};
+ghost use Rattle.std.specs.Prelude.{◌≡◌, min, List, ◌∷◌, length, is_ok, MatchResult, if◌then◌else◌, OnErr, OnOk};
+ghost use Rattle.std.specs.List.{between};
+ghost use Rattle.automaton.specs.Walk.{colours as colours_of};
+ghost use Rattle.model.specs.Calls.{answered, range_refusal, with_front};
+ghost use Rattle.editing.specs.Content.{scale_of};
+ghost use Rattle.document.specs.Content.{model_of, text as text_of, Keeps};
+ghost use Rattle.document.specs.Snapshot.{Snapshot, seen, SameDesk};
+ghost use Rattle.document.specs.Log.{Entry, Obeys, ByRecords, ObeysInText, latest, Follows};
 
 use crate::call::{Answer, Call};
+use crate::desk::Desk;
 use crate::document::Document;
 use editing::Readings;
 use grammar::Grammar;
@@ -14,31 +17,58 @@ use meter::Meter;
 use model::Refusal;
 use walks::DocumentMeter;
 
-// The answer of a call that says `answer` where it is not refused.
-fn answer_unless(refused: Result<(), Refusal>, answer: Answer) -> Answer
-    ensures { result ≡ replied (refusal_in refused) answer }
+// The answer of a call, by how it came out.
+fn told<T, F: FnOnce(T) -> Answer>(outcome: Result<T, Refusal>, answer: F) -> Answer
+    requires { F.IsAlwaysCallable answer }
+    ensures { MatchResult outcome (λ value. F.post answer value result) (λ refusal. result ≡ Answer.Refused refusal) }
 {
-    match refused {
-        Ok(()) => answer,
-        Err(refusal) => Answer::Refused(refusal),
+    outcome.map_or_else(Answer::Refused, answer)
+}
+
+impl<R: Copy> Document<'_, R> {
+    // TEXT, to the front of a buffer of which so many cells may be used.
+    fn text_within(&self, from: u32, to: u32, room: usize, buffer: &mut [u8]) -> Result<(), Refusal>
+        ensures answer { result ≡ answered (range_refusal (model_of self.now) from to (min room (length buffer.old))) tt }
+        ensures written { buffer.new ≡ (if is_ok result then with_front (between from to (text_of self.now)) buffer.old else buffer.old) }
+    {
+        let cells = room.min(buffer.len());
+        self.text(from, to, &mut buffer[..cells])
     }
 }
 
 impl<X: Copy> Document<'_, Readings<X>> {
-    // Carries a call out, with a screen for PAINT and SCRIPT, a buffer for TEXT and COLOURS, and a reading for RANGE.
+    // COLOURS, to the front of a buffer of which so many cells may be used.
+    fn colours_within<G: Grammar, H: Meter<Reading = X>>(
+        &self,
+        meter: &DocumentMeter<G, H>,
+        from: u32,
+        to: u32,
+        room: usize,
+        buffer: &mut [u8],
+    ) -> Result<(), Refusal>
+        ensures answer { result ≡ answered (range_refusal (model_of self.now) from to (min room (length buffer.old))) tt }
+        ensures written { OnOk result (Keeps self.now (scale_of G.meaning H.scale meter.now) → buffer.new ≡ with_front (between from to (colours_of (G.meaning meter.now.first.grammar) (text_of self.now))) buffer.old) }
+        ensures same { OnErr result (buffer.new ≡ buffer.old) }
+    {
+        let cells = room.min(buffer.len());
+        self.colours(meter, from, to, &mut buffer[..cells])
+    }
+
+    // Carries a call out, on what is lent to it.
     fn carry_out<G: Grammar, H: Meter<Reading = X>>(
         &mut self,
         meter: &DocumentMeter<G, H>,
-        screen: &mut [u8],
-        buffer: &mut [u8],
-        reading: &mut Readings<X>,
+        desk: &mut Desk<Readings<X>>,
         call: Call,
     ) -> Answer
-        ensures obeys { Keeps self.old (document_measure (G.Grammar.meaning meter.now.first.grammar) (H.Meter.scale meter.now.second.second)) → Obeys (G.Grammar.meaning meter.now.first.grammar) (document_measure (G.Grammar.meaning meter.now.first.grammar) (H.Meter.scale meter.now.second.second)) (record { document = self.old; screen = screen.old; buffer = buffer.old; reading = reading.old }) (record { call = call.entry; answer = result; after = record { document = self.new; screen = screen.new; buffer = buffer.new; reading = reading.new } }) }
-        ensures anyway { ObeysInText (G.Grammar.meaning meter.now.first.grammar) (record { document = self.old; screen = screen.old; buffer = buffer.old; reading = reading.old }) (record { call = call.entry; answer = result; after = record { document = self.new; screen = screen.new; buffer = buffer.new; reading = reading.new } }) }
-        ensures keeps { Keeps self.old (document_measure (G.Grammar.meaning meter.now.first.grammar) (H.Meter.scale meter.now.second.second)) → Keeps self.new (document_measure (G.Grammar.meaning meter.now.first.grammar) (H.Meter.scale meter.now.second.second)) }
-        ensures records { Keeps self.old (document_measure (G.Grammar.meaning meter.now.first.grammar) (H.Meter.scale meter.now.second.second)) → ByRecords (G.Grammar.meaning meter.now.first.grammar) (λ s. Keeps s.document (document_measure (G.Grammar.meaning meter.now.first.grammar) (H.Meter.scale meter.now.second.second))) (record { document = self.old; screen = screen.old; buffer = buffer.old; reading = reading.old }) call.entry (record { document = self.new; screen = screen.new; buffer = buffer.new; reading = reading.new }) }
+        ensures obeys { let μ = scale_of G.meaning H.scale meter.now in Keeps self.old μ → Obeys (G.meaning meter.now.first.grammar) μ (seen self.old desk.old) (record { call = call.entry; answer = result; after = seen self.new desk.new }) }
+        ensures anyway { ObeysInText (G.meaning meter.now.first.grammar) (seen self.old desk.old) (record { call = call.entry; answer = result; after = seen self.new desk.new }) }
+        ensures keeps { let μ = scale_of G.meaning H.scale meter.now in Keeps self.old μ → Keeps self.new μ }
+        ensures records { let μ = scale_of G.meaning H.scale meter.now in Keeps self.old μ → ByRecords (G.meaning meter.now.first.grammar) (λ s. Keeps s.document μ) (seen self.old desk.old) call.entry (seen self.new desk.new) }
+        ensures lent { SameDesk desk.old desk.new }
     {
+        let pass = |()| Answer::Pass;
+        let written = |()| Answer::Written;
         match call {
             Call::Size => {
                 let (bytes, chunks, height) = self.size();
@@ -48,51 +78,31 @@ impl<X: Copy> Document<'_, Readings<X>> {
                     height,
                 }
             }
-            Call::Open { states } => answer_unless(self.try_open(states), Answer::Pass),
-            Call::Edit { from, to, bytes } => match self.try_edit(meter, from, to, bytes) {
-                Ok(change) => Answer::Due(change),
-                Err(refusal) => Answer::Refused(refusal),
-            },
-            Call::Paint { change } => {
-                answer_unless(self.try_paint(meter, change, screen), Answer::Pass)
+            Call::Open { states } => told(self.try_open(states), pass),
+            Call::Edit { from, to, bytes } => {
+                told(self.try_edit(meter, from, to, bytes), Answer::Due)
             }
-            Call::Script { records, text } => {
-                match self.try_script(meter, screen, records, text) {
-                    Ok(done) => Answer::Done(done),
-                    Err(refusal) => Answer::RecordRefused(refusal),
-                }
-            }
-            Call::Close => answer_unless(self.try_close(), Answer::Closed),
+            Call::Paint { change } => told(self.try_paint(meter, change, desk.screen), pass),
+            Call::Script { records, text } => self
+                .try_script(meter, desk.screen, records, text)
+                .map_or_else(Answer::RecordRefused, Answer::Done),
+            Call::Close => told(self.try_close(), |()| Answer::Closed),
             Call::Text { from, to, room } => {
-                let cells = room.min(buffer.len());
-                answer_unless(self.text(from, to, &mut buffer[0..cells]), Answer::Written)
+                told(self.text_within(from, to, room, desk.buffer), written)
             }
             Call::Colours { from, to, room } => {
-                let cells = room.min(buffer.len());
-                answer_unless(
-                    self.colours(meter, from, to, &mut buffer[0..cells]),
-                    Answer::Written,
+                told(
+                    self.colours_within(meter, from, to, room, desk.buffer),
+                    written,
                 )
             }
-            Call::Range { from, to } => {
-                answer_unless(self.range(meter, from, to, reading), Answer::Written)
-            }
-            Call::Same { place, bytes } => match self.same(place, bytes) {
-                Ok(begins) => Answer::Begins(begins),
-                Err(refusal) => Answer::Refused(refusal),
-            },
-            Call::Place { place } => match self.place(meter, place) {
-                Ok((line, column)) => Answer::Position { line, column },
-                Err(refusal) => Answer::Refused(refusal),
-            },
-            Call::Spot { line, column } => match self.spot(meter, line, column) {
-                Ok(place) => Answer::Spot(place),
-                Err(refusal) => Answer::Refused(refusal),
-            },
-            Call::Partner { place } => match self.partner(meter, place) {
-                Ok(partner) => Answer::Partner(partner),
-                Err(refusal) => Answer::Refused(refusal),
-            },
+            Call::Range { from, to } => told(self.range(meter, from, to, desk.reading), written),
+            Call::Same { place, bytes } => told(self.same(place, bytes), Answer::Begins),
+            Call::Place { place } => told(self.place(meter, place), |(line, column)| {
+                Answer::Position { line, column }
+            }),
+            Call::Spot { line, column } => told(self.spot(meter, line, column), Answer::Spot),
+            Call::Partner { place } => told(self.partner(meter, place), Answer::Partner),
         }
     }
 
@@ -100,16 +110,15 @@ impl<X: Copy> Document<'_, Readings<X>> {
     pub fn perform<G: Grammar, H: Meter<Reading = X>>(
         &mut self,
         meter: &DocumentMeter<G, H>,
-        screen: &mut [u8],
-        buffer: &mut [u8],
-        reading: &mut Readings<X>,
+        desk: &mut Desk<Readings<X>>,
         call: Call,
     ) -> Answer
-        ensures obeys { Keeps self.old (document_measure (G.Grammar.meaning meter.now.first.grammar) (H.Meter.scale meter.now.second.second)) → Obeys (G.Grammar.meaning meter.now.first.grammar) (document_measure (G.Grammar.meaning meter.now.first.grammar) (H.Meter.scale meter.now.second.second)) (record { document = self.old; screen = screen.old; buffer = buffer.old; reading = reading.old }) (record { call = call.entry; answer = result; after = record { document = self.new; screen = screen.new; buffer = buffer.new; reading = reading.new } }) }
-        ensures anyway { ObeysInText (G.Grammar.meaning meter.now.first.grammar) (record { document = self.old; screen = screen.old; buffer = buffer.old; reading = reading.old }) (record { call = call.entry; answer = result; after = record { document = self.new; screen = screen.new; buffer = buffer.new; reading = reading.new } }) }
-        ensures keeps { Keeps self.old (document_measure (G.Grammar.meaning meter.now.first.grammar) (H.Meter.scale meter.now.second.second)) → Keeps self.new (document_measure (G.Grammar.meaning meter.now.first.grammar) (H.Meter.scale meter.now.second.second)) }
-        ensures law { (first : Snapshot _) (log : List (Entry _)) → Follows (G.Grammar.meaning meter.now.first.grammar) (document_measure (G.Grammar.meaning meter.now.first.grammar) (H.Meter.scale meter.now.second.second)) first log → latest first log ≡ record { document = self.old; screen = screen.old; buffer = buffer.old; reading = reading.old } → Follows (G.Grammar.meaning meter.now.first.grammar) (document_measure (G.Grammar.meaning meter.now.first.grammar) (H.Meter.scale meter.now.second.second)) first (record { call = call.entry; answer = result; after = record { document = self.new; screen = screen.new; buffer = buffer.new; reading = reading.new } } ∷ log) }
+        ensures obeys { let μ = scale_of G.meaning H.scale meter.now in Keeps self.old μ → Obeys (G.meaning meter.now.first.grammar) μ (seen self.old desk.old) (record { call = call.entry; answer = result; after = seen self.new desk.new }) }
+        ensures anyway { ObeysInText (G.meaning meter.now.first.grammar) (seen self.old desk.old) (record { call = call.entry; answer = result; after = seen self.new desk.new }) }
+        ensures keeps { let μ = scale_of G.meaning H.scale meter.now in Keeps self.old μ → Keeps self.new μ }
+        ensures law { let μ = scale_of G.meaning H.scale meter.now in (first : Snapshot _) (log : List (Entry _)) → Follows (G.meaning meter.now.first.grammar) μ first log → latest first log ≡ seen self.old desk.old → Follows (G.meaning meter.now.first.grammar) μ first (record { call = call.entry; answer = result; after = seen self.new desk.new } ∷ log) }
+        ensures lent { SameDesk desk.old desk.new }
     {
-        self.carry_out(meter, screen, buffer, reading, call)
+        self.carry_out(meter, desk, call)
     }
 }

@@ -5,7 +5,7 @@ ghost use Rattle.measure.specs.Measure.{reading as reading_of};
 ghost use Rattle.model.specs.Calls.{answered, refusal_in, extent_refusal, place_refusal, spot_refusal, partner_refusal, but_bracket, begins as begins_at};
 ghost use Rattle.brackets.specs.Partner.{partner as partner_in};
 ghost use Rattle.positions.specs.Position.{position, spot as spot_in};
-ghost use Rattle.editing.specs.Content.{document_measure};
+ghost use Rattle.editing.specs.Content.{scale_of};
 ghost use Rattle.document.specs.Content.{model_of, text as text_of, Keeps};
 
 use crate::document::Document;
@@ -37,7 +37,7 @@ impl<X: Copy> Document<'_, Readings<X>> {
         place: u32,
     ) -> Result<(u32, u32), Refusal>
         ensures decides { refusal_in result ≡ place_refusal (model_of self.now) place }
-        ensures finds { IfOk result (λ p. Keeps self.now (document_measure (G.Grammar.meaning meter.now.first.grammar) (H.Meter.scale meter.now.second.second)) → p ≡ position (text_of self.now) place) }
+        ensures finds { IfOk result (λ p. Keeps self.now (scale_of G.meaning H.scale meter.now) → p ≡ position (text_of self.now) place) }
     {
         place_of(&self.tree, meter, place)
     }
@@ -50,7 +50,7 @@ impl<X: Copy> Document<'_, Readings<X>> {
         column: u32,
     ) -> Result<u32, Refusal>
         ensures decides { refusal_in result ≡ spot_refusal (model_of self.now) line }
-        ensures finds { IfOk result (λ p. Keeps self.now (document_measure (G.Grammar.meaning meter.now.first.grammar) (H.Meter.scale meter.now.second.second)) → p ≡ spot_in (text_of self.now) line column) }
+        ensures finds { IfOk result (λ p. Keeps self.now (scale_of G.meaning H.scale meter.now) → p ≡ spot_in (text_of self.now) line column) }
     {
         if line > self.lines {
             return Err(Refusal::NoLine(line as u64));
@@ -64,9 +64,9 @@ impl<X: Copy> Document<'_, Readings<X>> {
         meter: &DocumentMeter<G, H>,
         place: u32,
     ) -> Result<Option<Partner>, Refusal>
-        ensures decides { Keeps self.now (document_measure (G.Grammar.meaning meter.now.first.grammar) (H.Meter.scale meter.now.second.second)) → refusal_in result ≡ partner_refusal (G.Grammar.meaning meter.now.first.grammar) (model_of self.now) place }
-        ensures anyway { but_bracket (refusal_in result) ≡ but_bracket (partner_refusal (G.Grammar.meaning meter.now.first.grammar) (model_of self.now) place) }
-        ensures finds { IfOk result (λ p. Keeps self.now (document_measure (G.Grammar.meaning meter.now.first.grammar) (H.Meter.scale meter.now.second.second)) → p ≡ partner_in (G.Grammar.meaning meter.now.first.grammar) (text_of self.now) place) }
+        ensures decides { Keeps self.now (scale_of G.meaning H.scale meter.now) → refusal_in result ≡ partner_refusal (G.meaning meter.now.first.grammar) (model_of self.now) place }
+        ensures anyway { but_bracket (refusal_in result) ≡ but_bracket (partner_refusal (G.meaning meter.now.first.grammar) (model_of self.now) place) }
+        ensures finds { IfOk result (λ p. Keeps self.now (scale_of G.meaning H.scale meter.now) → p ≡ partner_in (G.meaning meter.now.first.grammar) (text_of self.now) place) }
     {
         partner_of(&self.tree, meter, place)
     }
@@ -80,7 +80,7 @@ impl<X: Copy> Document<'_, Readings<X>> {
         out: &mut Readings<X>,
     ) -> Result<(), Refusal>
         ensures answer { result ≡ answered (extent_refusal (model_of self.now) from to) tt }
-        ensures written { OnOk result (Keeps self.now (document_measure (G.Grammar.meaning meter.now.first.grammar) (H.Meter.scale meter.now.second.second)) → out.new ≡ reading_of (document_measure (G.Grammar.meaning meter.now.first.grammar) (H.Meter.scale meter.now.second.second)) (between from to (text_of self.now))) }
+        ensures written { let μ = scale_of G.meaning H.scale meter.now in OnOk result (Keeps self.now μ → out.new ≡ reading_of μ (between from to (text_of self.now))) }
         ensures same { OnErr result (out.new ≡ out.old) }
     {
         if from > to || to > self.tree.bytes() {

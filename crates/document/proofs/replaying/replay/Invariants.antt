@@ -1,5 +1,7 @@
 use Rattle.std.proofs.Common.{◌≡◌, take, drop}
-use Rattle.editing.specs.Content.{document_measure}
+use Rattle.editing.specs.Content.{scale_of}
+use Rattle.document.specs.Snapshot.{seen, SameDesk}
+use Rattle.document.specs.Log.{lent_by}
 use Rattle.document.proofs.Replays.{Going}
 use Rattle.document.proofs.replaying.replay.Given as goal
 
@@ -7,5 +9,6 @@ use Rattle.document.proofs.replaying.replay.Given as goal
 abbrev pub invariant-loop-i : goal.invariant-loop-i
 invariant-loop-i g l =
     let a = g.G.Grammar.meaning l.meter.first.grammar in
-    let μ = document_measure a (g.H.Meter.scale l.meter.second.second) in
-    Going a μ (l.initial.screen, l.initial.buffer, l.initial.reading) (take l.i l.calls) (take l.i l.answers) (record { document = l.document; screen = l.screen; buffer = l.buffer; reading = l.reading }) × (drop l.i l.answers ≡ drop l.i l.initial.answers)
+    let μ = scale_of g.G.Grammar.meaning g.H.Meter.scale l.meter in
+    Going a μ (lent_by l.initial.desk) (take l.i l.calls) (take l.i l.answers) (seen l.document l.desk)
+    × (drop l.i l.answers ≡ drop l.i l.initial.answers) × SameDesk l.initial.desk l.desk

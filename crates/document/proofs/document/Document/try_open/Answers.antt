@@ -10,7 +10,7 @@ pub invariant_of-self : goal.invariant_of-self
 invariant_of-self g c =
     let self = c.args.self.now in
     let T = self.tree in
-    let passes = sym c.in_default.ensures in
+    let passes = sym c.in_ok-may_open.ensures in
     let done : c.prepare.result ≡ true = c.prepare.ensures.answer ∙ ap (λ (l : Lent). preparable T l.slots) c.lent-slots.ensures ∙ can_prepare T self.due c.args.states passes in
     let none = c.prepare.ensures.chunks ∙ cond-true c.prepare.result [] (chunks_now T) done in
     record { counted = still_counted T self.due c.args.states passes c.prepare.new.self self.lines none self.counted; fitting = still_fits T self.due c.args.states passes c.prepare.new.self none self.fitting }
@@ -19,7 +19,7 @@ pub returns : goal.returns
 returns g c =
     let self = c.args.self.now in
     let T = self.tree in
-    let passes = sym c.in_default.ensures in
+    let passes = sym c.in_ok-may_open.ensures in
     let done : c.prepare.result ≡ true = c.prepare.ensures.answer ∙ ap (λ (l : Lent). preparable T l.slots) c.lent-slots.ensures ∙ can_prepare T self.due c.args.states passes in
     let none = c.prepare.ensures.chunks ∙ cond-true c.prepare.result [] (chunks_now T) done in
     let all : usable_of c.prepare.new.self ≡ (lent_to T).slots = c.prepare.ensures.usable ∙ cond-true c.prepare.result c.lent-slots.result.slots (usable_of T) done ∙ ap (λ (l : Lent). l.slots) c.lent-slots.ensures in

@@ -1,4 +1,4 @@
-use Rattle.std.proofs.Common.{◌≡◌, ℕ, ◌-◌, List, length, OnErr, None, Option, Result, sym, ap, ◌∙◌, subst}
+use Rattle.std.proofs.Common.{◌≡◌, ℕ, ◌-◌, List, length, OnErr, None, Result, sym, ap, ◌∙◌, subst}
 use Rattle.model.specs.declared.change.Change.{Change}
 use Rattle.model.specs.declared.refusal.Refusal.{Refusal}
 use Rattle.model.specs.declared.replacement.Replacement.{Replacement}
@@ -22,7 +22,7 @@ pub returns-clause-decides : goal.returns-clause-decides
 returns-clause-decides g c =
     let self = c.args.self.now in
     let told = c.in_ok-change.ensures in
-    ap refusal_in (painted c.try_paint.result (length c.args.screen.now) c.args.text.now (model_of self) _ c.args.replacement c.in_ok-change.change c.try_paint.ensures.answer told.after c.in_default.ensures told.numbers.1.0 told.numbers.1.1) ∙ c.in_default.ensures
+    ap refusal_in (painted c.try_paint.result (length c.args.screen.now) c.args.text.now (model_of self) _ c.args.replacement c.in_ok-change.change c.try_paint.ensures.answer told.after c.in_ok-may_take.ensures told.numbers.1.0 told.numbers.1.1) ∙ c.in_ok-may_take.ensures
 
 pub returns-clause-keeps : goal.returns-clause-keeps
 returns-clause-keeps g c kept =
@@ -35,4 +35,4 @@ returns-clause-same g c =
     let self = c.args.self.now in
     let told = c.in_ok-change.ensures in
     subst (λ r. OnErr r (Unchanged self c.try_paint.new.self × (c.try_paint.new.screen ≡ c.args.screen.now)))
-    (sym (painted c.try_paint.result (length c.args.screen.now) c.args.text.now (model_of self) _ c.args.replacement c.in_ok-change.change c.try_paint.ensures.answer told.after c.in_default.ensures told.numbers.1.0 told.numbers.1.1)) tt
+    (sym (painted c.try_paint.result (length c.args.screen.now) c.args.text.now (model_of self) _ c.args.replacement c.in_ok-change.change c.try_paint.ensures.answer told.after c.in_ok-may_take.ensures told.numbers.1.0 told.numbers.1.1)) tt

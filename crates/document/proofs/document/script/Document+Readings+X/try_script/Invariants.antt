@@ -1,4 +1,4 @@
-use Rattle.std.proofs.Common.{◌≡◌, ℕ, List, length, drop}
+use Rattle.std.proofs.Common.{length}
 use Rattle.editing.specs.Content.{document_measure}
 use Rattle.document.specs.Content.{model_of, Keeps}
 use Rattle.document.proofs.Scripting.{Onward, Stepped}

@@ -1,4 +1,4 @@
-use Rattle.std.proofs.Common.{◌≡◌, ◌+◌, ◌-◌, sym, ap, ◌∙◌, arith}
+use Rattle.std.proofs.Common.{◌+◌, ◌-◌, ap, ◌∙◌, arith}
 use Rattle.document.proofs.Lines.{counted_behind}
 use Rattle.document.proofs.document.untyped.Document+Readings+X.try_edit.Goals as goal
 
