@@ -21,7 +21,7 @@ fn put_digit(out: &mut Vec<u8>, byte: u8, class: u8) -> Result<(), AllocError>
     }
 }
 
-// ESC [ and a number of two digits and m.
+// ESC [ and a number of two digits and m. Written as bytes: `write!` would fail with an io::Error, and this fails by memory alone.
 fn put_escape(out: &mut Vec<u8>, number: u8) -> Result<(), AllocError>
     requires { number < 100 }
     ensures { OnOk result (out.new.items ≡ out.old.items ++ escape_sequence number) }
