@@ -17,21 +17,11 @@ pub(crate) fn value_of(digit: u8) -> Option<u8>
     }
 }
 
-pub(crate) fn upper_digit(value: u8) -> u8
-    requires { value < 16 }
-    ensures { result ≡ upper_digit_of value }
+// The digit of a cell, for its value mod 16, with a small letter from ten on.
+pub fn cell_digit(cell: u8) -> u8
+    ensures { result ≡ lower_digit_of (cell % 16) }
 {
-    if value < 10 {
-        b'0' + value
-    } else {
-        b'A' + (value - 10)
-    }
-}
-
-fn lower_digit(value: u8) -> u8
-    requires { value < 16 }
-    ensures { result ≡ lower_digit_of value }
-{
+    let value = cell % 16;
     if value < 10 {
         b'0' + value
     } else {
@@ -39,12 +29,17 @@ fn lower_digit(value: u8) -> u8
     }
 }
 
+// The digit of a value with a capital letter from ten on.
+pub(crate) fn upper_digit(value: u8) -> u8
+    requires { value < 16 }
+    ensures { result ≡ upper_digit_of value }
+{
+    cell_digit(value).to_ascii_uppercase()
+}
+
 // One digit a cell, for its value mod 16.
 pub fn digits_text(heap: Global, cells: &[u8]) -> Result<Vec<u8>, AllocError>
     ensures { IfOk result (λ v. v.items ≡ map (λ cell. lower_digit_of (cell % 16)) cells.now) }
 {
-    cells
-        .iter()
-        .map(|cell| lower_digit(*cell % 16))
-        .collect(heap)
+    cells.iter().map(|cell| cell_digit(*cell)).collect(heap)
 }

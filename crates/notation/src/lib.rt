@@ -10,5 +10,5 @@ pub mod quoting;
 pub mod spot;
 pub mod words;
 
-pub use digits::digits_text;
+pub use digits::{cell_digit, digits_text};
 pub use quoting::quoted_text;

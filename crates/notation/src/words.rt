@@ -12,50 +12,39 @@ pub fn is_blank(byte: u8) -> bool
 fn skipped(line: &[u8]) -> &[u8]
     ensures { result.now ≡ skipped_from line.now }
 {
-    for (i, byte) in line.iter().enumerate() {
-        if !is_blank(*byte) {
-            return &line[i..];
-        }
-    }
-    &[]
+    let start = line
+        .iter()
+        .position(|byte| !is_blank(*byte))
+        .unwrap_or(line.len());
+    &line[start..]
 }
 
-// The first word of a line that begins with no blank.
-fn front_word(line: &[u8]) -> &[u8]
-    ensures { result.now ≡ front_word_of line.now }
+// The first word of a line that begins with no blank, and what is left behind it.
+fn split_front(line: &[u8]) -> (&[u8], &[u8])
+    ensures word { result.0.now ≡ front_word_of line.now }
+    ensures rest { result.1.now ≡ front_rest_of line.now }
 {
-    for (i, byte) in line.iter().enumerate() {
-        if is_blank(*byte) {
-            return &line[..i];
-        }
-    }
-    line
-}
-
-// What is left behind that word.
-fn front_rest(line: &[u8]) -> &[u8]
-    ensures { result.now ≡ front_rest_of line.now }
-{
-    for (i, byte) in line.iter().enumerate() {
-        if is_blank(*byte) {
-            return &line[i..];
-        }
-    }
-    &[]
+    let end = line
+        .iter()
+        .position(|byte| is_blank(*byte))
+        .unwrap_or(line.len());
+    line.split_at(end)
 }
 
 // The first word of a line, empty where there is none.
 pub fn word(line: &[u8]) -> &[u8]
     ensures { result.now ≡ word_of line.now }
 {
-    front_word(skipped(line))
+    let (word, _) = split_front(skipped(line));
+    word
 }
 
 // What is left of a line behind its first word.
 pub fn behind(line: &[u8]) -> &[u8]
     ensures { result.now ≡ behind_of line.now }
 {
-    front_rest(skipped(line))
+    let (_, rest) = split_front(skipped(line));
+    rest
 }
 
 // No word is left.

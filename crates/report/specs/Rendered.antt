@@ -1,6 +1,7 @@
 -- What the program writes for a text and its colours, byte by byte, in one of two views.
 -- Digits shows each class as a digit; Terminal shows the text itself in the terminal's colours.
 use Rattle.std.specs.Prelude.{ℕ, ◌+◌, ◌/◌, ◌%◌, cond, not, ◌&&◌, List, [], ◌∷◌, ◌++◌, ◌==◌, nat_le, nat_lt, slice_index}
+use Rattle.notation.specs.Digits.{lower_digit}
 use Rattle.report.specs.declared.view.View.{View}
 use Rattle.report.specs.declared.view.View.TheVariants.{Digits, Terminal}
 
@@ -9,7 +10,7 @@ line_feed = 0x0A
 
 -- 0 to 9 and a to f
 abbrev pub hex_digit : ℕ → ℕ
-hex_digit n = cond (nat_lt n 10) (0x30 + n) (0x57 + n)
+hex_digit n = lower_digit n
 
 -- One digit for a byte, and a new line behind a line feed.
 abbrev pub digit_of : ℕ → ℕ → List ℕ

@@ -49,18 +49,8 @@ pub fn summary_of<G: Grammar + Copy>(grammar: &G, text: &[u8]) -> Option<Summary
 pub fn summary_text(heap: Global, summary: Option<Summary>) -> Result<String, AllocError>
     ensures { IfOk result (λ s. string_bytes s ≡ summary_line summary) }
 {
-    let Some(s) = summary else {
-        return String::from_str(heap, "overlong");
-    };
-    let Summary {
-        length,
-        lines,
-        units,
-        state,
-        closings,
-        openings,
-    } = s;
-    format!(in heap;
-        "length {length} lines {lines} units {units} state {state} closings {closings} openings {openings}"
-    )
+    match summary {
+        Some(summary) => format!(in heap; "{summary}"),
+        None => String::from_str(heap, "overlong"),
+    }
 }

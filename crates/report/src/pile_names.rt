@@ -4,6 +4,7 @@ ghost use Rattle.report.specs.Piles.{FindsByName};
 use crate::pile::Pile;
 
 impl Pile {
+    // An Option and no FromStr: whoever looks for a pile has an error of its own for a name that none has.
     pub fn named(name: &str) -> Option<Pile>
         ensures { FindsByName name.now result }
     {

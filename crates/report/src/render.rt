@@ -3,6 +3,7 @@ ghost use Rattle.std.specs.Prelude.{◌≡◌, ◌%◌, ◌<◌, ◌++◌, IfOk,
 ghost use Rattle.report.specs.Rendered.{hex_digit, digit_of, switch_to, switch, visible as visible_of, escape_sequence, opening as opening_of, piece, next_shown, closing as closing_of, rendered};
 
 use crate::view::View;
+use notation::cell_digit;
 use std::alloc::{AllocError, Global};
 
 // The foreground colour of each class, as terminals number it.
@@ -10,24 +11,17 @@ const PALETTE: [u8; 16] = [
     90, 37, 36, 33, 32, 31, 35, 34, 91, 92, 93, 94, 95, 96, 97, 39,
 ];
 
-fn hex_digit_of(class: u8) -> u8
-    ensures { result ≡ hex_digit (class % 16) }
-{
-    let n = class % 16;
-    if n < 10 { b'0' + n } else { b'a' + (n - 10) }
-}
-
 fn put_digit(out: &mut Vec<u8>, byte: u8, class: u8) -> Result<(), AllocError>
     ensures { OnOk result (out.new.items ≡ out.old.items ++ digit_of byte class) }
 {
-    let digit = hex_digit_of(class);
+    let digit = cell_digit(class);
     match byte {
         b'\n' => out.extend_from_slice(&[digit, b'\n']),
         _ => out.extend_from_slice(&[digit]),
     }
 }
 
-// ESC [ and a number of two digits and m.
+// ESC [ and a number of two digits and m. Written as bytes: `write!` would fail with an io::Error, and this fails by memory alone.
 fn put_escape(out: &mut Vec<u8>, number: u8) -> Result<(), AllocError>
     requires { number < 100 }
     ensures { OnOk result (out.new.items ≡ out.old.items ++ escape_sequence number) }
@@ -57,11 +51,10 @@ fn put_visible(out: &mut Vec<u8>, byte: u8) -> Result<(), AllocError>
 fn put_change(out: &mut Vec<u8>, last: u8, class: u8) -> Result<(), AllocError>
     ensures { OnOk result (out.new.items ≡ out.old.items ++ switch last class) }
 {
-    if last == class {
-        out.extend_from_slice(&[])
-    } else {
-        put_switch(out, class)
+    if last != class {
+        put_switch(out, class)?;
     }
+    Ok(())
 }
 
 // A byte in the class `shown`, where `last` was shown before it.
@@ -69,8 +62,7 @@ fn put_coloured(out: &mut Vec<u8>, last: u8, shown: u8, byte: u8) -> Result<(), 
     ensures { OnOk result (out.new.items ≡ out.old.items ++ (switch last shown ++ visible_of byte)) }
 {
     put_change(out, last, shown)?;
-    put_visible(out, byte)?;
-    Ok(())
+    put_visible(out, byte)
 }
 
 // One byte in its class; gives the class that is shown behind it.
@@ -83,10 +75,9 @@ fn put_piece(out: &mut Vec<u8>, view: View, last: u8, byte: u8, class: u8) -> Re
             Ok(last)
         }
         View::Terminal => {
-            let shown = if byte >= 0x80 && byte <= 0xBF {
-                last
-            } else {
-                class
+            let shown = match byte {
+                0x80..=0xBF => last,
+                _ => class,
             };
             put_coloured(out, last, shown, byte)?;
             Ok(shown)
@@ -98,7 +89,7 @@ fn put_opening(out: &mut Vec<u8>, view: View) -> Result<(), AllocError>
     ensures { OnOk result (out.new.items ≡ out.old.items ++ opening_of view) }
 {
     match view {
-        View::Digits => out.extend_from_slice(&[]),
+        View::Digits => Ok(()),
         View::Terminal => put_switch(out, 0),
     }
 }
@@ -119,8 +110,8 @@ pub fn render(heap: Global, view: View, text: &[u8], cells: &[u8]) -> Result<Vec
     let mut out = Vec::new(heap);
     put_opening(&mut out, view)?;
     let mut last = 0;
-    for i in 0..text.len().min(cells.len()) {
-        last = put_piece(&mut out, view, last, text[i], cells[i])?;
+    for (byte, class) in text.iter().zip(cells) {
+        last = put_piece(&mut out, view, last, *byte, *class)?;
     }
     put_closing(&mut out, view)?;
     Ok(out)

@@ -1,3 +1,4 @@
 pub mod LineBack
 pub mod Splitting
+pub mod Commas
 pub mod ScriptBack

@@ -2,6 +2,7 @@
 pub mod Names
 pub mod Records
 pub mod Asked
+pub mod Reads
 pub mod Request
 pub mod Answered
 pub mod Laws

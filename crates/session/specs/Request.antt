@@ -29,21 +29,31 @@ number_in left = ok_or (number_of (word left)) Number
 abbrev pub range_in : List ℕ → Reading (ℕ × ℕ)
 range_in left = and_then (number_in left) (λ from. and_then (number_in (behind left)) (λ to. Ok (from, to)))
 
+-- One number and no more, and two.
+abbrev pub only_number : List ℕ → Reading ℕ
+only_number left = and_then (number_in left) (λ n. if_over (behind left) n)
+
+abbrev pub only_range : List ℕ → Reading (ℕ × ℕ)
+only_range left = and_then (range_in left) (λ ns. if_over (behind (behind left)) ns)
+
 -- A number as the last word, if there is a word.
 abbrev pub last_number : List ℕ → Reading (Option ℕ)
-last_number left = cond (is_over left) (Ok None) (and_then (number_in left) (λ n. if_over (behind left) (Some n)))
+last_number left = cond (is_over left) (Ok None) (and_then (only_number left) (λ n. Ok (Some n)))
 
 -- The four numbers of a due as the last words, if there is a word.
 abbrev pub due_in : List ℕ → Reading (Option Change)
 due_in left =
     cond (is_over left) (Ok None)
-    (and_then (range_in left) (λ first. and_then (range_in (behind (behind left))) (λ second.
-    if_over (behind (behind (behind (behind left)))) (Some (record { place = first.0; removed = first.1; inserted = second.0; end = second.1 })))))
+    (and_then (range_in left) (λ first. and_then (only_range (behind (behind left))) (λ second.
+    Ok (Some (record { place = first.0; removed = first.1; inserted = second.0; end = second.1 })))))
 
 -- A range and the room for it, if it is told.
+abbrev pub range_and_room : List ℕ → Reading (ℕ × ℕ × Option ℕ)
+range_and_room left =
+    and_then (range_in left) (λ range. and_then (last_number (behind (behind left))) (λ room. Ok (range.0, range.1, room)))
+
 abbrev pub with_room : (ℕ → ℕ → Option ℕ → Asked) → List ℕ → Reading Asked
-with_room ask left =
-    and_then (range_in left) (λ range. and_then (last_number (behind (behind left))) (λ room. Ok (ask range.0 range.1 room)))
+with_room ask left = and_then (range_and_room left) (λ read. Ok (ask read.0 read.1 read.2))
 
 abbrev pub edit_in : List ℕ → Reading Asked
 edit_in left =
@@ -57,12 +67,12 @@ script_in left =
 abbrev pub same_in : List ℕ → Reading Asked
 same_in left = and_then (number_in left) (λ place. and_then (ok_or (bytes_of (behind left)) Bytes) (λ bytes. Ok (Same place bytes)))
 
--- One number and no more, and two.
+-- What asks with one number and no more, and with two.
 abbrev pub with_number : (ℕ → Asked) → List ℕ → Reading Asked
-with_number ask left = and_then (number_in left) (λ n. if_over (behind left) (ask n))
+with_number ask left = and_then (only_number left) (λ n. Ok (ask n))
 
 abbrev pub with_numbers : (ℕ → ℕ → Asked) → List ℕ → Reading Asked
-with_numbers ask left = and_then (range_in left) (λ ns. if_over (behind (behind left)) (ask ns.0 ns.1))
+with_numbers ask left = and_then (only_range left) (λ ns. Ok (ask ns.0 ns.1))
 
 -- What belongs to each call.
 abbrev pub call_in : CallName → List ℕ → Reading Asked

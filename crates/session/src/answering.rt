@@ -1,23 +1,12 @@
 // Writes an answer as a line.
-ghost use Rattle.std.specs.Prelude.{◌≡◌, IfOk, string_bytes};
-ghost use Rattle.session.specs.Answered.{answer_line, due_line, refused_line, record_refused_line, partner_line, yes_or_no, layer_name as name_of_layer};
+ghost use Rattle.std.specs.Prelude.{◌≡◌, IfOk, Some, string_bytes};
+ghost use Rattle.session.specs.Answered.{answer_line, refusal_words, layer_name as name_of_layer, yes_or_no};
 
 use brackets::Partner;
 use document::{Answer, RecordRefusal};
 use model::{Change, Layer, Refusal};
 use std::alloc::{AllocError, Global};
-
-fn due_text(heap: Global, due: Change) -> Result<String, AllocError>
-    ensures { IfOk result (λ s. string_bytes s ≡ due_line due) }
-{
-    let Change {
-        place,
-        removed,
-        inserted,
-        end,
-    } = due;
-    format!(in heap; "due {place} {removed} {inserted} {end}")
-}
+use std::fmt;
 
 fn layer_name(layer: Layer) -> &'static str
     ensures { result.now ≡ name_of_layer layer }
@@ -29,23 +18,19 @@ fn layer_name(layer: Layer) -> &'static str
     }
 }
 
-fn refused_text(heap: Global, refusal: Refusal) -> Result<String, AllocError>
-    ensures { IfOk result (λ s. string_bytes s ≡ refused_line refusal) }
-{
-    let number = refusal.number();
-    let layer = layer_name(refusal.layer());
-    let place = refusal.place();
-    format!(in heap; "refused {number} {layer} {place}")
-}
+// The number of a refusal, its layer and its place.
+#[derive(Clone, Copy)]
+struct RefusalWords(Refusal);
 
-fn record_refused_text(heap: Global, refused: RecordRefusal) -> Result<String, AllocError>
-    ensures { IfOk result (λ s. string_bytes s ≡ record_refused_line refused) }
-{
-    let RecordRefusal { index, refusal } = refused;
-    let number = refusal.number();
-    let layer = layer_name(refusal.layer());
-    let place = refusal.place();
-    format!(in heap; "refused {index} {number} {layer} {place}")
+impl fmt::Display for RefusalWords {
+    ghost output = { λ words. Some (refusal_words words.0) };
+
+    fn fmt<W: fmt::Write>(&self, f: &mut fmt::Formatter<W>) -> fmt::Result {
+        let number = self.0.number();
+        let layer = layer_name(self.0.layer());
+        let place = self.0.place();
+        write!(f, "{number} {layer} {place}")
+    }
 }
 
 fn yes_no(is: bool) -> &'static str
@@ -54,18 +39,47 @@ fn yes_no(is: bool) -> &'static str
     if is { "yes" } else { "no" }
 }
 
-fn partner_text(heap: Global, partner: Option<Partner>) -> Result<String, AllocError>
-    ensures { IfOk result (λ s. string_bytes s ≡ partner_line partner) }
-{
-    match partner {
-        None => String::from_str(heap, "none"),
-        Some(Partner { place, agree: true }) => format!(in heap; "{place} agree"),
-        Some(
-            Partner {
+// An answer as a line without its line feed: empty where it was written to the buffer or to the lent reading.
+#[derive(Clone, Copy)]
+struct AnswerLine(Answer);
+
+impl fmt::Display for AnswerLine {
+    ghost output = { λ line. Some (answer_line line.0) };
+
+    fn fmt<W: fmt::Write>(&self, f: &mut fmt::Formatter<W>) -> fmt::Result {
+        match self.0 {
+            Answer::Closed => f.write_str("closed"),
+            Answer::Pass => f.write_str("pass"),
+            Answer::Due(Change {
                 place,
-                agree: false,
-            },
-        ) => format!(in heap; "{place} differ"),
+                removed,
+                inserted,
+                end,
+            }) => write!(f, "due {place} {removed} {inserted} {end}"),
+            Answer::Done(records) => write!(f, "done {records}"),
+            Answer::RecordRefused(RecordRefusal { index, refusal }) => {
+                let words = RefusalWords(refusal);
+                write!(f, "refused {index} {words}")
+            }
+            Answer::Written => Ok(()),
+            Answer::Size {
+                bytes,
+                chunks,
+                height,
+            } => write!(f, "{bytes} {chunks} {height}"),
+            Answer::Begins(begins) => f.write_str(yes_no(begins)),
+            Answer::Position { line, column } => write!(f, "{line} {column}"),
+            Answer::Spot(place) => write!(f, "{place}"),
+            Answer::Partner(None) => f.write_str("none"),
+            Answer::Partner(Some(Partner { place, agree })) => {
+                let kinds = if agree { "agree" } else { "differ" };
+                write!(f, "{place} {kinds}")
+            }
+            Answer::Refused(refusal) => {
+                let words = RefusalWords(refusal);
+                write!(f, "refused {words}")
+            }
+        }
     }
 }
 
@@ -73,22 +87,6 @@ fn partner_text(heap: Global, partner: Option<Partner>) -> Result<String, AllocE
 pub fn answer_text(heap: Global, answer: Answer) -> Result<String, AllocError>
     ensures { IfOk result (λ s. string_bytes s ≡ answer_line answer) }
 {
-    match answer {
-        Answer::Closed => String::from_str(heap, "closed"),
-        Answer::Pass => String::from_str(heap, "pass"),
-        Answer::Due(due) => due_text(heap, due),
-        Answer::Done(records) => format!(in heap; "done {records}"),
-        Answer::RecordRefused(refused) => record_refused_text(heap, refused),
-        Answer::Written => Ok(String::new(heap)),
-        Answer::Size {
-            bytes,
-            chunks,
-            height,
-        } => format!(in heap; "{bytes} {chunks} {height}"),
-        Answer::Begins(begins) => String::from_str(heap, yes_no(begins)),
-        Answer::Position { line, column } => format!(in heap; "{line} {column}"),
-        Answer::Spot(place) => format!(in heap; "{place}"),
-        Answer::Partner(partner) => partner_text(heap, partner),
-        Answer::Refused(refusal) => refused_text(heap, refusal),
-    }
+    let line = AnswerLine(answer);
+    format!(in heap; "{line}")
 }

@@ -1,6 +1,10 @@
 // The calls that a line can begin with, by name.
 ghost use Rattle.std.specs.Prelude.{◌≡◌};
+ghost use Rattle.std.specs.Option.{ok_or};
 ghost use Rattle.session.specs.Names.{named};
+ghost use Rattle.session.specs.declared.problem.Problem.TheVariants.{UnknownCall};
+
+use crate::problem::Problem;
 
 #[derive(Clone, Copy)]
 pub enum CallName {
@@ -20,24 +24,28 @@ pub enum CallName {
     Partner,
 }
 
-pub(crate) fn call_name(word: &[u8]) -> Option<CallName>
-    ensures { result ≡ named word.now }
-{
-    match word {
-        b"open" => Some(CallName::Open),
-        b"edit" => Some(CallName::Edit),
-        b"paint" => Some(CallName::Paint),
-        b"close" => Some(CallName::Close),
-        b"text" => Some(CallName::Text),
-        b"colours" => Some(CallName::Colours),
-        b"size" => Some(CallName::Size),
-        b"screen" => Some(CallName::Screen),
-        b"script" => Some(CallName::Script),
-        b"range" => Some(CallName::Range),
-        b"same" => Some(CallName::Same),
-        b"place" => Some(CallName::Place),
-        b"spot" => Some(CallName::Spot),
-        b"partner" => Some(CallName::Partner),
-        _ => None,
+impl TryFrom<&[u8]> for CallName {
+    type Error = Problem;
+
+    ghost try_from_gives = { λ word call. call ≡ ok_or (named word.now) UnknownCall };
+
+    fn try_from(word: &[u8]) -> Result<CallName, Problem> {
+        match word {
+            b"open" => Ok(CallName::Open),
+            b"edit" => Ok(CallName::Edit),
+            b"paint" => Ok(CallName::Paint),
+            b"close" => Ok(CallName::Close),
+            b"text" => Ok(CallName::Text),
+            b"colours" => Ok(CallName::Colours),
+            b"size" => Ok(CallName::Size),
+            b"screen" => Ok(CallName::Screen),
+            b"script" => Ok(CallName::Script),
+            b"range" => Ok(CallName::Range),
+            b"same" => Ok(CallName::Same),
+            b"place" => Ok(CallName::Place),
+            b"spot" => Ok(CallName::Spot),
+            b"partner" => Ok(CallName::Partner),
+            _ => Err(Problem::UnknownCall),
+        }
     }
 }

@@ -9,6 +9,7 @@ pub mod problem;
 pub mod reading;
 pub mod records;
 pub mod request;
+mod unread;
 #[cfg(test)]
 mod tests;
 

@@ -1,6 +1,8 @@
 // Why a line cannot be read.
-ghost use Rattle.std.specs.Prelude.{◌≡◌};
+ghost use Rattle.std.specs.Prelude.{◌≡◌, Some};
 ghost use Rattle.session.specs.Asked.{problem_text};
+
+use std::fmt;
 
 #[derive(Clone, Copy, PartialEq, Eq, Debug)]
 pub enum Problem {
@@ -28,5 +30,13 @@ impl Problem {
                 "records are wanted as four numbers with commas between, FROM,TO,START,END",
             Problem::LeftOver => "words are left over behind the call",
         }
+    }
+}
+
+impl fmt::Display for Problem {
+    ghost output = { λ problem. Some (problem_text problem) };
+
+    fn fmt<W: fmt::Write>(&self, f: &mut fmt::Formatter<W>) -> fmt::Result {
+        f.write_str(self.text())
     }
 }

@@ -1,24 +1,28 @@
 // Reads what a line asks.
 ghost use Rattle.std.specs.Prelude.{◌≡◌, IfOk};
-ghost use Rattle.session.specs.Asked.{meaning, asked};
-ghost use Rattle.session.specs.Request.{if_over, number_in as number_of_next, range_in as range_of_next, last_number as last_number_of, due_in as due_of_next, call_in, request_of};
+ghost use Rattle.session.specs.Asked.{meaning};
+ghost use Rattle.session.specs.Reads.{Reads};
+ghost use Rattle.session.specs.Request.{if_over, number_in as number_of_next, range_in as range_of_next, last_number as last_number_of, due_in as due_of_next, only_number as only_number_of, only_range as only_range_of, range_and_room as range_and_room_of, call_in, request_of};
 
-use crate::call_name::{CallName, call_name};
+use crate::call_name::CallName;
 use crate::problem::Problem;
 use crate::records::records;
 use crate::request::Request;
+use crate::unread::Unread;
 use model::Change;
 use notation::bytes::{bytes, bytes_then};
 use notation::number::number;
 use notation::words::{behind, is_over, word};
 use std::alloc::{AllocError, Global};
 
-// The request, if no word is left.
-fn alone(request: Request, left: &[u8]) -> Result<Request, Problem>
-    ensures { meaning result ≡ if_over left.now (asked request) }
+// What was read, if no word is left.
+fn alone<T>(read: T, left: &[u8]) -> Result<T, Problem>
+where
+    T: Drop,
+    ensures { result ≡ if_over left.now read }
 {
     if is_over(left) {
-        Ok(request)
+        Ok(read)
     } else {
         Err(Problem::LeftOver)
     }
@@ -39,6 +43,21 @@ fn range_in(left: &[u8]) -> Result<(u32, u32), Problem>
     Ok((from, to))
 }
 
+// One number and no more, and two.
+fn only_number(left: &[u8]) -> Result<u32, Problem>
+    ensures { result ≡ only_number_of left.now }
+{
+    let number = number_in(left)?;
+    alone(number, behind(left))
+}
+
+fn only_range(left: &[u8]) -> Result<(u32, u32), Problem>
+    ensures { result ≡ only_range_of left.now }
+{
+    let range = range_in(left)?;
+    alone(range, behind(behind(left)))
+}
+
 // A number as the last word, if there is a word.
 fn last_number(left: &[u8]) -> Result<Option<u32>, Problem>
     ensures { result ≡ last_number_of left.now }
@@ -46,12 +65,16 @@ fn last_number(left: &[u8]) -> Result<Option<u32>, Problem>
     if is_over(left) {
         return Ok(None);
     }
-    let number = number_in(left)?;
-    if is_over(behind(left)) {
-        Ok(Some(number))
-    } else {
-        Err(Problem::LeftOver)
-    }
+    Ok(Some(only_number(left)?))
+}
+
+// A range and the room for it, if it is told.
+fn range_and_room(left: &[u8]) -> Result<(u32, u32, Option<u32>), Problem>
+    ensures { result ≡ range_and_room_of left.now }
+{
+    let (from, to) = range_in(left)?;
+    let room = last_number(behind(behind(left)))?;
+    Ok((from, to, room))
 }
 
 // The four numbers of a due as the last words, if there is a word.
@@ -62,152 +85,91 @@ fn due_in(left: &[u8]) -> Result<Option<Change>, Problem>
         return Ok(None);
     }
     let (place, removed) = range_in(left)?;
-    let left = behind(behind(left));
-    let (inserted, end) = range_in(left)?;
-    if is_over(behind(behind(left))) {
-        Ok(Some(Change {
-            place,
-            removed,
-            inserted,
-            end,
-        }))
-    } else {
-        Err(Problem::LeftOver)
-    }
+    let (inserted, end) = only_range(behind(behind(left)))?;
+    Ok(Some(Change {
+        place,
+        removed,
+        inserted,
+        end,
+    }))
 }
 
-fn paint_in(left: &[u8]) -> Result<Request, Problem>
-    ensures { meaning result ≡ call_in CallName.Paint left.now }
-{
-    let due = due_in(left)?;
-    Ok(Request::Paint(due))
-}
-
-fn text_in(left: &[u8]) -> Result<Request, Problem>
-    ensures { meaning result ≡ call_in CallName.Text left.now }
+fn edit_in(heap: Global, left: &[u8]) -> Result<Request, Unread>
+    ensures { Reads result (call_in CallName.Edit left.now) }
 {
     let (from, to) = range_in(left)?;
-    let room = last_number(behind(behind(left)))?;
-    Ok(Request::Text { from, to, room })
+    let bytes = bytes(heap, behind(behind(left)))?.ok_or(Problem::Bytes)?;
+    Ok(Request::Edit { from, to, bytes })
 }
 
-fn colours_in(left: &[u8]) -> Result<Request, Problem>
-    ensures { meaning result ≡ call_in CallName.Colours left.now }
+fn script_in(heap: Global, left: &[u8]) -> Result<Request, Unread>
+    ensures { Reads result (call_in CallName.Script left.now) }
 {
-    let (from, to) = range_in(left)?;
-    let room = last_number(behind(behind(left)))?;
-    Ok(Request::Colours { from, to, room })
+    let (text, left) = bytes_then(heap, left)?.ok_or(Problem::Bytes)?;
+    let records = records(heap, left)?.ok_or(Problem::Record)?;
+    Ok(Request::Script { text, records })
 }
 
-fn screen_in(left: &[u8]) -> Result<Request, Problem>
-    ensures { meaning result ≡ call_in CallName.Screen left.now }
-{
-    let cells = last_number(left)?;
-    Ok(Request::Screen(cells))
-}
-
-fn edit_in(heap: Global, left: &[u8]) -> Result<Result<Request, Problem>, AllocError>
-    ensures { IfOk result (λ r. meaning r ≡ call_in CallName.Edit left.now) }
-{
-    let (from, to) = match range_in(left) {
-        Ok(range) => range,
-        Err(problem) => return Ok(Err(problem)),
-    };
-    match bytes(heap, behind(behind(left)))? {
-        Some(bytes) => Ok(Ok(Request::Edit { from, to, bytes })),
-        None => Ok(Err(Problem::Bytes)),
-    }
-}
-
-fn script_in(heap: Global, left: &[u8]) -> Result<Result<Request, Problem>, AllocError>
-    ensures { IfOk result (λ r. meaning r ≡ call_in CallName.Script left.now) }
-{
-    let Some((text, left)) = bytes_then(heap, left)? else {
-        return Ok(Err(Problem::Bytes));
-    };
-    match records(heap, left)? {
-        Some(records) => Ok(Ok(Request::Script { text, records })),
-        None => Ok(Err(Problem::Record)),
-    }
-}
-
-fn same_in(heap: Global, left: &[u8]) -> Result<Result<Request, Problem>, AllocError>
-    ensures { IfOk result (λ r. meaning r ≡ call_in CallName.Same left.now) }
-{
-    let place = match number_in(left) {
-        Ok(place) => place,
-        Err(problem) => return Ok(Err(problem)),
-    };
-    match bytes(heap, behind(left))? {
-        Some(bytes) => Ok(Ok(Request::Same { place, bytes })),
-        None => Ok(Err(Problem::Bytes)),
-    }
-}
-
-fn range_call_in(left: &[u8]) -> Result<Request, Problem>
-    ensures { meaning result ≡ call_in CallName.Range left.now }
-{
-    let (from, to) = range_in(left)?;
-    alone(Request::Range { from, to }, behind(behind(left)))
-}
-
-fn place_in(left: &[u8]) -> Result<Request, Problem>
-    ensures { meaning result ≡ call_in CallName.Place left.now }
+fn same_in(heap: Global, left: &[u8]) -> Result<Request, Unread>
+    ensures { Reads result (call_in CallName.Same left.now) }
 {
     let place = number_in(left)?;
-    alone(Request::Place(place), behind(left))
-}
-
-fn spot_in(left: &[u8]) -> Result<Request, Problem>
-    ensures { meaning result ≡ call_in CallName.Spot left.now }
-{
-    let (line, column) = range_in(left)?;
-    alone(Request::Spot { line, column }, behind(behind(left)))
-}
-
-fn partner_in(left: &[u8]) -> Result<Request, Problem>
-    ensures { meaning result ≡ call_in CallName.Partner left.now }
-{
-    let place = number_in(left)?;
-    alone(Request::Partner(place), behind(left))
+    let bytes = bytes(heap, behind(left))?.ok_or(Problem::Bytes)?;
+    Ok(Request::Same { place, bytes })
 }
 
 // What belongs to a call.
-fn read_call(
-    heap: Global,
-    call: CallName,
-    left: &[u8],
-) -> Result<Result<Request, Problem>, AllocError>
-    ensures { IfOk result (λ r. meaning r ≡ call_in call left.now) }
+fn read_call(heap: Global, call: CallName, left: &[u8]) -> Result<Request, Unread>
+    ensures { Reads result (call_in call left.now) }
 {
     match call {
-        CallName::Open => Ok(alone(Request::Open, left)),
+        CallName::Open => Ok(alone(Request::Open, left)?),
         CallName::Edit => edit_in(heap, left),
-        CallName::Paint => Ok(paint_in(left)),
-        CallName::Close => Ok(alone(Request::Close, left)),
-        CallName::Text => Ok(text_in(left)),
-        CallName::Colours => Ok(colours_in(left)),
-        CallName::Size => Ok(alone(Request::Size, left)),
-        CallName::Screen => Ok(screen_in(left)),
+        CallName::Paint => Ok(Request::Paint(due_in(left)?)),
+        CallName::Close => Ok(alone(Request::Close, left)?),
+        CallName::Text => {
+            let (from, to, room) = range_and_room(left)?;
+            Ok(Request::Text { from, to, room })
+        }
+        CallName::Colours => {
+            let (from, to, room) = range_and_room(left)?;
+            Ok(Request::Colours { from, to, room })
+        }
+        CallName::Size => Ok(alone(Request::Size, left)?),
+        CallName::Screen => Ok(Request::Screen(last_number(left)?)),
         CallName::Script => script_in(heap, left),
-        CallName::Range => Ok(range_call_in(left)),
+        CallName::Range => {
+            let (from, to) = only_range(left)?;
+            Ok(Request::Range { from, to })
+        }
         CallName::Same => same_in(heap, left),
-        CallName::Place => Ok(place_in(left)),
-        CallName::Spot => Ok(spot_in(left)),
-        CallName::Partner => Ok(partner_in(left)),
+        CallName::Place => Ok(Request::Place(only_number(left)?)),
+        CallName::Spot => {
+            let (line, column) = only_range(left)?;
+            Ok(Request::Spot { line, column })
+        }
+        CallName::Partner => Ok(Request::Partner(only_number(left)?)),
     }
+}
+
+fn request_in(heap: Global, line: &[u8]) -> Result<Request, Unread>
+    ensures { Reads result (request_of line.now) }
+{
+    let first = word(line);
+    if let [] | [b'#', ..] = first {
+        return Ok(Request::PassedOver);
+    }
+    let call = CallName::try_from(first)?;
+    read_call(heap, call, behind(line))
 }
 
 // A line is given without its line feed.
 pub fn read_request(heap: Global, line: &[u8]) -> Result<Result<Request, Problem>, AllocError>
     ensures { IfOk result (λ r. meaning r ≡ request_of line.now) }
 {
-    let first = word(line);
-    if let [] | [b'#', ..] = first {
-        return Ok(Ok(Request::PassedOver));
-    }
-    match call_name(first) {
-        Some(call) => read_call(heap, call, behind(line)),
-        None => Ok(Err(Problem::UnknownCall)),
+    match request_in(heap, line) {
+        Ok(request) => Ok(Ok(request)),
+        Err(Unread::Problem(problem)) => Ok(Err(problem)),
+        Err(Unread::Memory(error)) => Err(error),
     }
 }

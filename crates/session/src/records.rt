@@ -11,12 +11,8 @@ use std::alloc::{AllocError, Global};
 fn number_then(word: &[u8]) -> Option<(u32, &[u8])>
     ensures { option_map (λ r. (r.0, r.1.now)) result ≡ number_then_of word.now }
 {
-    for (i, byte) in word.iter().enumerate() {
-        if *byte == b',' {
-            return Some((number(&word[..i])?, &word[i + 1..]));
-        }
-    }
-    None
+    let comma = word.iter().position(|byte| *byte == b',')?;
+    Some((number(&word[..comma])?, &word[comma + 1..]))
 }
 
 // The record that a word is, if it is one.

@@ -16,22 +16,18 @@ fn session_length(text: &[u8]) -> usize
     ensures some { 0 < result }
     ensures within { result ≤ length text.now }
 {
-    for i in 1..text.len() {
-        if text[i] == b'$' && text[i - 1] == b'\n' {
-            return i;
-        }
+    match text.windows(2).position(|pair| matches!(pair, [b'\n', b'$'])) {
+        Some(end) => end + 1,
+        None => text.len(),
     }
-    text.len()
 }
 
 // The first line without its line end, and the rest.
 fn first_line(text: &[u8]) -> (&[u8], &[u8]) {
-    for (i, byte) in text.iter().enumerate() {
-        if *byte == b'\n' {
-            return (&text[..i], &text[i + 1..]);
-        }
+    match text.iter().position(|byte| *byte == b'\n') {
+        Some(end) => (&text[..end], &text[end + 1..]),
+        None => (text, &[]),
     }
-    (text, &[])
 }
 
 // The words behind `$ scene`.
