@@ -11,14 +11,13 @@ ghost use Rattle.model.specs.End.{edit_change};
 
 use crate::lines::line_ends_between;
 use crate::plan::plan;
-use crate::readings::Readings;
 use crate::states::{apart_from, state_before};
 use grammar::{Grammar, walk};
 use locate::two_states::TwoStates;
 use meter::Meter;
 use model::{Change, Refusal, Run};
 use tree::ChunkTree;
-use walks::DocumentMeter;
+use walks::{DocumentMeter, Readings};
 
 // The most bytes that come in the place of a run: 1,024 new ones and what is left of two chunks.
 const MOST_MIDDLE: usize = 1152;

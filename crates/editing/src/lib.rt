@@ -5,12 +5,11 @@
 pub mod apply;
 pub mod lines;
 pub mod plan;
-pub mod readings;
 pub mod screen;
 pub mod states;
 
 pub use apply::{Edited, apply_edit};
 pub use lines::{line_ends_between, line_ends_of};
-pub use readings::Readings;
 pub use screen::{copy_colours, copy_text, paint_change};
 pub use states::state_before;
+pub use walks::Readings;

@@ -7,13 +7,12 @@ ghost use Rattle.model.specs.Paint.{painted};
 ghost use Rattle.tree.specs.Public.{KeptBy};
 ghost use Rattle.editing.specs.Content.{text_in, model_in, document_measure};
 
-use crate::readings::Readings;
 use crate::states::state_before;
 use grammar::{Grammar, colour_cells};
 use meter::Meter;
 use model::{Change, Refusal};
 use tree::ChunkTree;
-use walks::DocumentMeter;
+use walks::{DocumentMeter, Readings};
 
 // Why a range cannot be copied into a buffer of so many cells, if it cannot.
 fn range_refusal<R: Copy>(tree: &ChunkTree<R>, from: u32, to: u32, cells: usize) -> Option<Refusal>

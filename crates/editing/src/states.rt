@@ -5,14 +5,13 @@ ghost use Rattle.model.specs.End.{apart};
 ghost use Rattle.tree.specs.Public.{KeptBy};
 ghost use Rattle.editing.specs.Content.{text_in, document_measure};
 
-use crate::readings::Readings;
 use grammar::Grammar;
 use locate::two_states::TwoStates;
 use locate::walked::Walked;
 use locate::{Meeting, OnFirst, StateBefore};
 use meter::Meter;
 use tree::ChunkTree;
-use walks::DocumentMeter;
+use walks::{DocumentMeter, Readings};
 
 // The state before a place of the text, in a walk begun at its first byte.
 pub fn state_before<X: Copy, G: Grammar, H: Meter<Reading = X>>(

@@ -1,5 +1,5 @@
 -- What a passage tells of its text, from every number that a state may have.
-use Rattle.std.proofs.Common.{◌≡◌, ℕ, ◌<◌, ◌≤◌, List, length, sym, ap, ◌∙◌, ⊎_elim, arith, Some}
+use Rattle.std.proofs.Common.{◌≡◌, ℕ, ◌<◌, ◌≤◌, List, length, sym, ap, ◌∙◌, ⊎_elim, arith, Some, None}
 use Rattle.std.proofs.lemmas.List.{get_or_past}
 use Rattle.std.proofs.lemmas.Bool.{cases_lt}
 use Rattle.automaton.specs.Automaton.{Automaton, Lawful}
@@ -19,9 +19,10 @@ module _ (a : Automaton) (lawful : Lawful a) (text : List ℕ) where
       (λ h. let within = bounded_within (passage a) text h in let same : p ≡ passage a text = cc in (h, same))
       (cases_lt longest (length text))
 
-  -- A reading that is no passage is that of an overlong text.
-  pub overlong_told : ((p : Passage) → reading (walk_measure a) text ≡ Some p → ⊥) → longest < length text
-  overlong_told none = ⊎_elim (λ h. h) (λ h. absurd (none (passage a text) (walk_is a lawful text ∙ bounded_within (passage a) text h))) (cases_lt longest (length text))
+  -- Without a reading the text is overlong.
+  pub overlong_told : None ≡ reading (walk_measure a) text → longest < length text
+  overlong_told none =
+      ⊎_elim (λ h. h) (λ h. let within = bounded_within (passage a) text h in let is : None ≡ Some (passage a text) = none ∙ walk_is a lawful text ∙ within in let z : ◌≡◌ {A = ℕ} 0 1 = cc in absurd (omega arith)) (cases_lt longest (length text))
 
   entry_said : (s : ℕ) → entry_at (passage a text).entries s ≡ entry a s text
   entry_said s =

@@ -41,9 +41,7 @@ impl Forward for AtPlace {
 
     // A text that ends before the place is counted by one look at its extent.
     fn pass(&self, at: Placed, reading: &Option<Extent>) -> Option<Placed> {
-        let Some(extent) = reading else {
-            return None;
-        };
+        let extent = reading.as_ref()?;
         if extent.length as usize > at.left {
             return None;
         }

@@ -1,6 +1,5 @@
 // The depth of a search for a partner, over a byte of a role and over a text by the brackets that it leaves.
 ghost use Rattle.std.specs.Prelude.{◌≡◌};
-ghost use Rattle.measure.specs.Walk.{entry_at as entry_in};
 ghost use Rattle.locate.specs.Depth.{deeper, shallower, depth_ahead, depth_behind, depth_over, over_ahead, over_behind};
 
 use automaton::role::Role;
@@ -65,19 +64,4 @@ pub fn over_behind(depth: u32, length: u32, entry: &Entry) -> Option<u32>
     ensures { result ≡ over_behind depth length entry.now }
 {
     depth_over(depth, length, entry.openings, entry.closings)
-}
-
-// The entry of a state; a state without an entry stays.
-pub fn entry_at(entries: &[Entry; 64], state: u8) -> Entry
-    ensures { result ≡ entry_in entries.now state }
-{
-    if state < 64 {
-        entries[state as usize]
-    } else {
-        Entry {
-            end: state,
-            closings: 0,
-            openings: 0,
-        }
-    }
 }

@@ -45,9 +45,7 @@ impl Forward for InLine {
 
     // A text that ends before the column's place is passed over by one look at its extent.
     fn pass(&self, at: Lined, reading: &Option<Extent>) -> Option<Lined> {
-        let Some(extent) = reading else {
-            return None;
-        };
+        let extent = reading.as_ref()?;
         let start = if extent.lines == 0 { at.units } else { 0 };
         if extent.lines < at.lines {
             return Some(Lined {

@@ -34,9 +34,7 @@ impl<'g, G: Grammar> Forward for Meeting<'g, G> {
 
     // Walks that have met stay together, so where the ends differ they have not met in between.
     fn pass(&self, at: TwoStates, reading: &Option<Passage>) -> Option<TwoStates> {
-        let Some(passage) = reading else {
-            return None;
-        };
+        let passage = reading.as_ref()?;
         if at.old >= 64 || at.new >= 64 {
             return None;
         }

@@ -3,7 +3,7 @@ ghost use Rattle.std.specs.Prelude.{◌≡◌};
 ghost use Rattle.measure.specs.Walk.{walk_measure};
 ghost use Rattle.locate.specs.PartnerAhead.{ahead_on};
 
-use crate::depth::{depth_ahead, entry_at, over_ahead};
+use crate::depth::{depth_ahead, over_ahead};
 use crate::nested::Nested;
 use grammar::Grammar;
 use measure::walk_reading::Passage;
@@ -33,10 +33,8 @@ impl<'g, G: Grammar> Forward for PartnerAhead<'g, G> {
 
     // A text whose unmatched closings are fewer than the openings so far is run through.
     fn pass(&self, at: Nested, reading: &Option<Passage>) -> Option<Nested> {
-        let Some(passage) = reading else {
-            return None;
-        };
-        let entry = entry_at(&passage.entries, at.state);
+        let passage = reading.as_ref()?;
+        let entry = passage.entry(at.state);
         let depth = over_ahead(at.depth, passage.length, &entry)?;
         Some(Nested {
             state: entry.end,

@@ -3,7 +3,7 @@ ghost use Rattle.std.specs.Prelude.{◌≡◌};
 ghost use Rattle.measure.specs.Walk.{walk_measure};
 ghost use Rattle.locate.specs.PartnerBehind.{trace_on, behind_on};
 
-use crate::depth::{depth_behind, entry_at, over_behind};
+use crate::depth::{depth_behind, over_behind};
 use crate::traced::Traced;
 use grammar::Grammar;
 use measure::walk_reading::Passage;
@@ -41,15 +41,13 @@ impl<'g, G: Grammar> Backward for PartnerBehind<'g, G> {
 
     fn ahead_over(&self, state: Option<Traced>, reading: &Option<Passage>) -> Option<Traced> {
         let from = state?;
-        let Some(passage) = reading else {
-            return None;
-        };
+        let passage = reading.as_ref()?;
         if passage.length > LONGEST.saturating_sub(from.read) {
             return None;
         }
         Some(Traced {
             read: from.read + passage.length,
-            state: entry_at(&passage.entries, from.state).end,
+            state: passage.entry(from.state).end,
         })
     }
 
@@ -61,13 +59,11 @@ impl<'g, G: Grammar> Backward for PartnerBehind<'g, G> {
     // A text whose unmatched openings are fewer than the closings so far is run through.
     fn pass_back(&self, state: Option<Traced>, reading: &Option<Passage>, at: u32) -> Option<u32> {
         let from = state?;
-        let Some(passage) = reading else {
-            return None;
-        };
+        let passage = reading.as_ref()?;
         if passage.length > LONGEST.saturating_sub(from.read) {
             return None;
         }
-        let entry = entry_at(&passage.entries, from.state);
+        let entry = passage.entry(from.state);
         over_behind(at, passage.length, &entry)
     }
 }

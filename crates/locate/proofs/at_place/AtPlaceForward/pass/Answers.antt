@@ -7,7 +7,7 @@ use Rattle.locate.proofs.at_place.AtPlaceForward.pass.Goals.{then-extent-eq0, el
 pub returns : goal.returns
 returns c text e =
     let at = c.args.at in
-    let x = told text c.in-Some.extent (sym e ∙ c.in-Some.is) in
+    let x = told text c.in_ok-extent.extent.now (sym (c.in_ok-extent.ensures.value ∙ e)) in
     let start : c.if-extent-eq0.start ≡ base at.units text =
     elim c.if-extent-eq0.branch [
       | then-extent-eq0 w ↦ w.start-is ∙ sym (base_first at.units text (omega (arith, x.0, w.if-extent-eq0.true)))

@@ -12,11 +12,11 @@ returns g c text e =
     let grammar = c.args.self.now.grammar.now in
     let a = g.G.Grammar.meaning grammar in
     let from = c.in_ok-from.from in
-    let p = c.in-Some.passage in
-    let x = c.entry_at-entry.result in
-    let told = passage_told a (g.G.Grammar.lawful grammar) text p (sym e ∙ c.in-Some.is) in
+    let p = c.in_ok-passage.passage.now in
+    let x = c.entry-entry.result in
+    let told = passage_told a (g.G.Grammar.lawful grammar) text p (sym (c.in_ok-passage.ensures.value ∙ e)) in
     let long = ap (λ (q : Passage). q.length) told.1 in
-    let is = c.entry_at-entry.ensures ∙ entry_told a (g.G.Grammar.lawful grammar) text p told.1 from.state in
+    let is = c.entry-entry.ensures ∙ entry_told a (g.G.Grammar.lawful grammar) text p told.1 from.state in
     let few = ap (λ (y : Entry). y.openings) is in
     let more = ap (λ (y : Entry). y.closings) is in
     if_some c.over_behind.result (λ y w.
