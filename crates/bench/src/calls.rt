@@ -1,13 +1,14 @@
 // Times calls on a document with a short and with a long text: keystrokes in its middle, each one byte more and then one byte less,
 // and the questions.
+use crate::timing::{time, time_rounds};
 use crate::{Pile, TEXT, pile};
+use brackets::Partner;
 use document::{Answer, Call, Desk, Document};
-use editing::Readings;
 use load::room::{UNREAD, UNUSED};
-use meter::{Blank, Pair, Place};
+use meter::Blank;
+use model::Change;
 use std::io;
-use std::time::Instant;
-use walks::{DocumentMeter, Walk};
+use walks::{DocumentMeter, Readings, document_meter};
 
 const KEYS: u32 = 4_000;
 
@@ -15,168 +16,121 @@ const SLOTS: usize = 4096;
 
 const CELLS: usize = 262144;
 
-type Meter = DocumentMeter<Pile, Blank>;
-
-fn document_meter() -> Meter {
-    Pair {
-        first: Walk { grammar: pile() },
-        second: Pair {
-            first: Place,
-            second: Blank,
-        },
-    }
+// A document, with the meter and the desk that its calls are lent.
+#[derive(Drop)]
+struct Host<'d> {
+    document: Document<'d, Readings<()>>,
+    meter: DocumentMeter<Pile, Blank>,
+    desk: Desk<'d, Readings<()>>,
 }
 
-// An edit, and what paints it.
-fn edit(
-    document: &mut Document<Readings<()>>,
-    meter: &Meter,
-    desk: &mut Desk<Readings<()>>,
-    from: u32,
-    to: u32,
-    bytes: &[u8],
-) -> Option<Call<'static>> {
-    match document.perform(meter, desk, Call::Edit { from, to, bytes }) {
-        Answer::Due(change) => Some(Call::Paint { change }),
-        _ => None,
-    }
-}
-
-// Types so many pieces of 64 bytes behind each other.
-fn fill(
-    document: &mut Document<Readings<()>>,
-    meter: &Meter,
-    desk: &mut Desk<Readings<()>>,
-    pieces: u32,
-) {
-    document.perform(meter, desk, Call::Open { states: 18 });
-    for k in 0..pieces.min(4096) {
-        if let Some(paint) = edit(document, meter, desk, 64 * k, 64 * k, &TEXT) {
-            document.perform(meter, desk, paint);
-        }
-    }
-}
-
-// The time that all edits took, and all paints.
-fn time_keys(
-    rt: &HostRuntime,
-    document: &mut Document<Readings<()>>,
-    meter: &Meter,
-    desk: &mut Desk<Readings<()>>,
-    place: u32,
-) -> io::Result<(u128, u128)> {
-    let mut edits = 0u128;
-    let mut paints = 0u128;
-    for round in 0..KEYS {
-        let start = Instant::now(rt)?;
-        let paint = if round % 2 == 0 {
-            edit(document, meter, desk, place, place, b"x")
-        } else {
-            edit(document, meter, desk, place, place.saturating_add(1), b"")
-        };
-        edits = edits.saturating_add(start.elapsed(rt)?.as_nanos());
-        let start = Instant::now(rt)?;
-        if let Some(paint) = paint {
-            document.perform(meter, desk, paint);
-        }
-        paints = paints.saturating_add(start.elapsed(rt)?.as_nanos());
-    }
-    Ok((edits / KEYS as u128, paints / KEYS as u128))
-}
-
-// One of the questions, asked of a place in the middle, or of the whole text.
+// What an edit and its paint took, on the mean, in nanoseconds.
 #[derive(Clone, Copy)]
-enum Question {
-    Place,
-    Spot,
-    PartnerAhead,
-    PartnerBehind,
-    Range,
-    Same,
+struct Keystroke {
+    edit: u128,
+    paint: u128,
 }
 
-// The place of a bracket's partner, and 0 where there is none.
-fn partner_place(document: &Document<Readings<()>>, meter: &Meter, place: u32) -> u32 {
-    match document.partner(meter, place) {
-        Ok(Some(partner)) => partner.place,
-        _ => 0,
+impl Host<'_> {
+    fn perform(&mut self, call: Call) -> Answer {
+        self.document.perform(&self.meter, &mut self.desk, call)
     }
-}
 
-// Asks it, and gives something of the answer, so that it is used.
-fn ask(
-    document: &Document<Readings<()>>,
-    meter: &Meter,
-    question: Question,
-    reading: &mut Readings<()>,
-) -> u32 {
-    let (bytes, _, _) = document.size();
-    match question {
-        Question::Place => document.place(meter, bytes / 2).unwrap_or((0, 0)).0,
-        Question::Spot => document.spot(meter, bytes / 64, 9).unwrap_or(0),
-        Question::PartnerAhead => partner_place(document, meter, 0),
-        Question::PartnerBehind => partner_place(document, meter, bytes.saturating_sub(1)),
-        Question::Range => {
-            let _ = document.range(meter, 1, bytes.saturating_sub(1), reading);
+    // An edit, and the change that waits to be painted.
+    fn edit(&mut self, from: u32, to: u32, bytes: &[u8]) -> Option<Change> {
+        match self.perform(Call::Edit { from, to, bytes }) {
+            Answer::Due(change) => Some(change),
+            _ => None,
+        }
+    }
+
+    fn paint(&mut self, change: Option<Change>) {
+        if let Some(change) = change {
+            self.perform(Call::Paint { change });
+        }
+    }
+
+    fn put(&mut self, place: u32, bytes: &[u8]) {
+        let change = self.edit(place, place, bytes);
+        self.paint(change);
+    }
+
+    // Types so many pieces of 64 bytes behind each other.
+    fn fill(&mut self, pieces: u32) {
+        self.perform(Call::Open { states: 18 });
+        for k in 0..pieces.min(4096) {
+            self.put(64 * k, &TEXT);
+        }
+    }
+
+    fn bytes(&self) -> u32 {
+        let (bytes, _, _) = self.document.size();
+        bytes
+    }
+
+    // Keystrokes at a place: a byte put in, and taken out again.
+    fn time_keys(&mut self, rt: &HostRuntime, place: u32) -> io::Result<Keystroke> {
+        let mut edits = 0u128;
+        let mut paints = 0u128;
+        for round in 0..KEYS {
+            let edit = time(rt, || {
+                if round % 2 == 0 {
+                    self.edit(place, place, b"x")
+                } else {
+                    self.edit(place, place.saturating_add(1), b"")
+                }
+            })?;
+            let paint = time(rt, || self.paint(edit.value))?;
+            edits = edits.saturating_add(edit.nanoseconds);
+            paints = paints.saturating_add(paint.nanoseconds);
+        }
+        Ok(Keystroke {
+            edit: edits / KEYS as u128,
+            paint: paints / KEYS as u128,
+        })
+    }
+
+    // The questions, asked of the middle, of both ends or of the whole text.
+    fn report_questions(&self, rt: &HostRuntime) -> io::Result<()> {
+        let document = &self.document;
+        let meter = &self.meter;
+        let bytes = self.bytes();
+        let last = bytes.saturating_sub(1);
+        report_question(rt, "place", || {
+            document.place(meter, bytes / 2).unwrap_or((0, 0)).0
+        })?;
+        report_question(rt, "spot", || {
+            document.spot(meter, bytes / 64, 9).unwrap_or(0)
+        })?;
+        report_question(rt, "partner of the first byte", || {
+            place_of(document.partner(meter, 0).unwrap_or(None))
+        })?;
+        report_question(rt, "partner of the last byte", || {
+            place_of(document.partner(meter, last).unwrap_or(None))
+        })?;
+        report_question(rt, "range of all but two bytes", || {
+            let mut reading = UNREAD;
+            let _ = document.range(meter, 1, last, &mut reading);
             bytes
-        }
-        Question::Same => document.same(bytes / 2, b"light (").unwrap_or(false) as u32,
+        })?;
+        report_question(rt, "same", || {
+            u32::from(document.same(bytes / 2, b"light (").unwrap_or(false))
+        })
     }
 }
 
-fn time_question(
-    rt: &HostRuntime,
-    document: &Document<Readings<()>>,
-    meter: &Meter,
-    name: &str,
-    question: Question,
-) -> io::Result<()> {
-    let mut reading = UNREAD;
-    let mut used = 0;
-    let start = Instant::now(rt)?;
-    for _ in 0..KEYS {
-        used = used.max(ask(document, meter, question, &mut reading));
-    }
-    let each = start.elapsed(rt)?.as_nanos() / KEYS as u128;
+fn place_of(partner: Option<Partner>) -> u32 {
+    partner.map_or(0, |partner| partner.place)
+}
+
+// What a question takes on the mean; something of each answer is used.
+fn report_question<F: Fn() -> u32 + Drop>(rt: &HostRuntime, name: &str, ask: F) -> io::Result<()>
+    requires { F.IsAlwaysCallable ask }
+{
+    let took = time_rounds(rt, KEYS, 0u32, |used, _| used.max(ask()))?;
+    let each = took.nanoseconds / KEYS as u128;
+    let used = took.value;
     println!(rt; "  {name}: {each} ns ({used})")
-}
-
-// The questions, with one pair of brackets around the whole text.
-fn report_questions(
-    rt: &HostRuntime,
-    document: &mut Document<Readings<()>>,
-    meter: &Meter,
-    desk: &mut Desk<Readings<()>>,
-) -> io::Result<()> {
-    for (from, bytes) in [(0, b"("), (document.size().0.saturating_add(1), b")")] {
-        if let Some(paint) = edit(document, meter, desk, from, from, bytes) {
-            document.perform(meter, desk, paint);
-        }
-    }
-    time_question(rt, document, meter, "place", Question::Place)?;
-    time_question(rt, document, meter, "spot", Question::Spot)?;
-    time_question(
-        rt,
-        document,
-        meter,
-        "partner of the first byte",
-        Question::PartnerAhead,
-    )?;
-    time_question(
-        rt,
-        document,
-        meter,
-        "partner of the last byte",
-        Question::PartnerBehind,
-    )?;
-    time_question(
-        rt,
-        document,
-        meter,
-        "range of all but two bytes",
-        Question::Range,
-    )?;
-    time_question(rt, document, meter, "same", Question::Same)
 }
 
 // A keystroke, and the questions, in a text of so many pieces of 64 bytes.
@@ -186,17 +140,22 @@ pub fn report_keystroke(rt: &HostRuntime, pieces: u32) -> io::Result<()> {
     let mut readings = vec![in rt.alloc(); UNREAD; SLOTS]?;
     let mut screen = vec![in rt.alloc(); 0; CELLS]?;
     let mut reading = UNREAD;
-    let meter = document_meter();
-    let mut document = Document::new(&mut slots, &mut store, &mut readings);
-    let mut desk = Desk {
-        screen: &mut screen,
-        buffer: &mut [],
-        reading: &mut reading,
+    let mut host = Host {
+        document: Document::new(&mut slots, &mut store, &mut readings),
+        meter: document_meter(pile(), Blank),
+        desk: Desk {
+            screen: &mut screen,
+            buffer: &mut [],
+            reading: &mut reading,
+        },
     };
-    fill(&mut document, &meter, &mut desk, pieces);
-    let (bytes, chunks, height) = document.size();
-    report_questions(rt, &mut document, &meter, &mut desk)?;
-    let (edit, paint) = time_keys(rt, &mut document, &meter, &mut desk, bytes / 2)?;
+    host.fill(pieces);
+    let (bytes, chunks, height) = host.document.size();
+    host.put(0, b"(");
+    let end = host.bytes();
+    host.put(end, b")");
+    host.report_questions(rt)?;
+    let Keystroke { edit, paint } = host.time_keys(rt, bytes / 2)?;
     println!(rt;
         "keystroke in {bytes} bytes, {chunks} chunks, height {height}: edit {edit} ns, paint {paint} ns"
     )

@@ -7,11 +7,12 @@ use grammar::Words;
 use layers::{Comment, Quoted};
 use measure::walk_reading::Passage;
 use meter::Meter;
-use std::time::Instant;
 use std::{env, io};
+use timing::{Timed, time_rounds};
 use walks::Walk;
 
 mod calls;
+mod timing;
 
 type Pile = Quoted<Comment<Words>>;
 
@@ -25,15 +26,6 @@ fn pile() -> Pile {
     }
 }
 
-fn asked(rt: &HostRuntime) -> io::Result<bool> {
-    for word in env::args(rt)? {
-        if word.as_str() == "run" {
-            return Ok(true);
-        }
-    }
-    Ok(false)
-}
-
 // A text that differs from round to round, so that no round can be left out.
 fn text_of(round: u32) -> [u8; 64] {
     let mut text = TEXT;
@@ -44,32 +36,26 @@ fn text_of(round: u32) -> [u8; 64] {
 // The end of a walk in a reading, so that the reading is used.
 fn end_of(reading: &Option<Passage>, round: u32) -> u8 {
     match reading {
-        Some(p) => p.entries[round as usize % 18].end,
+        Some(passage) => passage.entries[round as usize % 18].end,
         None => 0,
     }
 }
 
-fn time_walk(rt: &HostRuntime) -> io::Result<(u128, u8)> {
+fn time_walk(rt: &HostRuntime) -> io::Result<Timed<u8>> {
     let grammar = pile();
-    let start = Instant::now(rt)?;
-    let mut used = 0;
-    for round in 0..ROUNDS {
-        used ^= grammar::walk(&grammar, used % 18, &text_of(round));
-    }
-    Ok((start.elapsed(rt)?.as_nanos(), used))
+    time_rounds(rt, ROUNDS, 0, |used, round| {
+        used ^ grammar::walk(&grammar, used % 18, &text_of(round))
+    })
 }
 
-fn time_measure(rt: &HostRuntime) -> io::Result<(u128, u8)> {
+fn time_measure(rt: &HostRuntime) -> io::Result<Timed<u8>> {
     let meter = Walk { grammar: pile() };
-    let start = Instant::now(rt)?;
-    let mut used = 0;
-    for round in 0..ROUNDS {
-        used ^= end_of(&meter.measure(&text_of(round)), round);
-    }
-    Ok((start.elapsed(rt)?.as_nanos(), used))
+    time_rounds(rt, ROUNDS, 0, |used, round| {
+        used ^ end_of(&meter.measure(&text_of(round)), round)
+    })
 }
 
-fn time_join(rt: &HostRuntime) -> io::Result<(u128, u8)> {
+fn time_join(rt: &HostRuntime) -> io::Result<Timed<u8>> {
     let meter = Walk { grammar: pile() };
     let pieces = [
         meter.measure(&TEXT),
@@ -77,32 +63,29 @@ fn time_join(rt: &HostRuntime) -> io::Result<(u128, u8)> {
         meter.measure(&TEXT[9..]),
         meter.measure(&TEXT[40..]),
     ];
-    let start = Instant::now(rt)?;
-    let mut used = 0;
-    for round in 0..ROUNDS {
+    time_rounds(rt, ROUNDS, 0, |used, round| {
         let left = &pieces[round as usize % 4];
         let right = &pieces[round as usize / 4 % 4];
-        used ^= end_of(&meter.join(left, right), round);
-    }
-    Ok((start.elapsed(rt)?.as_nanos(), used))
+        used ^ end_of(&meter.join(left, right), round)
+    })
 }
 
-// The time of one round in tenths of a nanosecond, and its hundredths of a plain walk.
-fn report(rt: &HostRuntime, what: &str, took: (u128, u8), walk: u128) -> io::Result<()> {
-    let each = took.0 / ROUNDS as u128;
-    let share = took.0.saturating_mul(100) / walk.max(1);
-    let used = took.1;
+// The time of one round in nanoseconds, and its hundredths of a plain walk.
+fn report(rt: &HostRuntime, what: &str, took: Timed<u8>, walk: Timed<u8>) -> io::Result<()> {
+    let each = took.nanoseconds / ROUNDS as u128;
+    let share = took.nanoseconds.saturating_mul(100) / walk.nanoseconds.max(1);
+    let used = took.value;
     println!(rt; "{what}: {each} ns, {share} hundredths of a walk ({used})")
 }
 
 fn main(rt: HostRuntime) -> io::Result<()> {
-    if !asked(&rt)? {
+    if !env::args(&rt)?.any(|word| word.as_str() == "run") {
         return Ok(());
     }
     let walk = time_walk(&rt)?;
-    report(&rt, "walk 64 bytes", walk, walk.0)?;
-    report(&rt, "join two readings", time_join(&rt)?, walk.0)?;
-    report(&rt, "measure 64 bytes", time_measure(&rt)?, walk.0)?;
+    report(&rt, "walk 64 bytes", walk, walk)?;
+    report(&rt, "join two readings", time_join(&rt)?, walk)?;
+    report(&rt, "measure 64 bytes", time_measure(&rt)?, walk)?;
     calls::report_keystroke(&rt, 64)?;
     calls::report_keystroke(&rt, 4000)
 }

@@ -29,12 +29,12 @@ fn pile() -> Walk<Quoted<Comment<Words>>> {
 fn agrees<R: Copy + PartialEq, M: Meter<Reading = R>>(meter: &M, text: &[u8]) -> bool {
     let whole = meter.measure(text);
     let mut sum = meter.empty();
-    for i in 0..text.len() {
-        let parts = meter.join(&meter.measure(&text[..i]), &meter.measure(&text[i..]));
-        if parts != whole {
+    for (i, byte) in text.iter().enumerate() {
+        let (left, right) = text.split_at(i);
+        if meter.join(&meter.measure(left), &meter.measure(right)) != whole {
             return false;
         }
-        sum = meter.join(&sum, &meter.single(text[i]));
+        sum = meter.join(&sum, &meter.single(*byte));
     }
     sum == whole && meter.join(&whole, &meter.empty()) == whole
 }
@@ -59,10 +59,8 @@ fn cut_everywhere(rt: HostRuntime) {
 
 // What a walk of the pile from state 0 says of a text.
 fn from_start(text: &[u8]) -> Option<Entry> {
-    match pile().measure(text) {
-        Some(p) => Some(p.entries[0]),
-        None => None,
-    }
+    let passage = pile().measure(text)?;
+    Some(passage.entry(0))
 }
 
 fn entry(end: u8, closings: u32, openings: u32) -> Option<Entry> {
@@ -117,10 +115,8 @@ fn strange_values_join(rt: HostRuntime) {
         length: 1,
         entries: [strange; 64],
     });
-    match pile().join(&left, &pile().single(b')')) {
-        Some(p) => assert!(rt; p.entries[0] == strange && p.length == 2),
-        None => assert!(rt; false),
-    }
+    let joined = pile().join(&left, &pile().single(b')'));
+    assert!(rt; joined.is_some_and(|passage| passage.entry(0) == strange && passage.length == 2));
     assert!(rt;
         Place.join(&place(1, u32::MAX, u32::MAX), &place(1, 0, 9)) == place(2, u32::MAX, u32::MAX)
     );

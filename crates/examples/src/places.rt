@@ -1,28 +1,20 @@
 // Places of an empty text: the only one is its start.
 use document::Document;
-use editing::Readings;
 use grammar::Words;
-use meter::{Blank, Pair, Place};
+use meter::Blank;
 use slots::slot::Slot;
-use walks::{DocumentMeter, Walk};
+use walks::{Readings, document_meter};
 
 // The line and the column of a place in a document without a text, or the number of the refusal.
 fn place_in_empty_text(place: u32) -> Result<(u32, u32), u8> {
     let mut slots: [Slot<Readings<()>>; 0] = [];
     let mut store: [u8; 0] = [];
     let mut readings: [Readings<()>; 0] = [];
-    let meter: DocumentMeter<Words, Blank> = Pair {
-        first: Walk { grammar: Words },
-        second: Pair {
-            first: Place,
-            second: Blank,
-        },
-    };
+    let meter = document_meter(Words, Blank);
     let document = Document::new(&mut slots, &mut store, &mut readings);
-    match document.place(&meter, place) {
-        Ok(position) => Ok(position),
-        Err(refusal) => Err(refusal.number()),
-    }
+    document
+        .place(&meter, place)
+        .map_err(|refusal| refusal.number())
 }
 
 #[test]

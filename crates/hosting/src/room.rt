@@ -9,10 +9,10 @@ use crate::piles::{Work, with_pile};
 use document::{Desk, Document};
 use grammar::Grammar;
 use load::room::{UNREAD, UNUSED};
-use meter::{Blank, Pair, Place};
+use meter::Blank;
 use std::alloc::Global;
 use std::io::{BufRead, Result, Write};
-use walks::{DocumentMeter, Walk};
+use walks::document_meter;
 
 // How many cells the buffer has: as many as the longest text has bytes.
 const BUFFER: usize = 262144;
@@ -33,13 +33,7 @@ impl<R: BufRead, W: Write> Work for Session<'_, '_, '_, R, W> {
         × IfOk result (Hosted s.options.now a (R.remaining s.lines.now) (W.contents s.out.now) (W.contents t.out.now)) };
 
     fn run<G: Grammar + Copy>(&mut self, grammar: &G) -> Result<bool> {
-        let meter: DocumentMeter<G, Blank> = Pair {
-            first: Walk { grammar: *grammar },
-            second: Pair {
-                first: Place,
-                second: Blank,
-            },
-        };
+        let meter = document_meter(*grammar, Blank);
         let heap = self.heap;
         let mut slots = vec![in heap; UNUSED; self.options.slots()]?;
         let mut store = vec![in heap; 0; self.options.store()]?;

@@ -1,26 +1,24 @@
--- A text loaded piece by piece: after k pieces the chunks joined are its first k × 1,024 bytes, and there are as few as can be.
-use Rattle.std.proofs.Common.{◌≡◌, ℕ, ◌+◌, ◌-◌, ◌*◌, ◌<◌, ◌≤◌, min, Bool, true, false, ◌&&◌, leb, List, [], ◌++◌, length, take, drop, sym, refl, ap, ◌∙◌, ⊎_elim, append-nil, arith, length-append}
-use Rattle.std.specs.List.{between}
-use Rattle.std.proofs.lemmas.List.{take_all, drop_all, take-take, take-append-drop, length-take}
-use Rattle.std.proofs.lemmas.Slice.{between_is}
-use Rattle.std.proofs.lemmas.Bool.{cases_lt}
+-- A text loaded piece by piece: the chunks so far and the rest are the text, as few as can be, and full as long as there is a rest.
+use Rattle.std.proofs.Common.{◌≡◌, ℕ, ◌+◌, ◌-◌, ◌*◌, ◌<◌, ◌≤◌, min, Bool, true, false, ◌&&◌, leb, List, [], ◌++◌, length, take, drop, sym, refl, ap, ◌∙◌, append-nil, append_assoc, arith, length-append}
+use Rattle.std.proofs.Math.Bool.{and_assoc}
+use Rattle.std.proofs.lemmas.List.{take_all, drop_all, nil_from_length}
 use Rattle.std.proofs.lemmas.Bool.Decides.{nat_tests}
 use Rattle.chunks.specs.Cut.{needed, joined, cut, replaced}
 use Rattle.chunks.proofs.Cut.{cut_joined, cut_length}
 use Rattle.chunks.proofs.Joined.{joined_append}
-use Rattle.slots.proofs.Ranges.{between_long}
 use Rattle.slots.specs.declared.slot.Slot.{Slot}
 use Rattle.tree.specs.declared.chunk_tree.ChunkTree.{ChunkTree}
 use Rattle.tree.specs.Public.{preparable}
 use Rattle.load.specs.Loading.{roomy}
 
-pub record SoFar (text : List ℕ) (n k : ℕ) (chunks : List (List ℕ)) : Type 0 where
-  pub joined_are : joined chunks ≡ take (k * 1024) text
-  pub few : length chunks ≡ needed (length (take (k * 1024) text))
+pub record SoFar (text rest : List ℕ) (n : ℕ) (chunks : List (List ℕ)) : Type 0 where
+  pub joined_are : joined chunks ++ rest ≡ text
+  pub few : length chunks ≡ needed (length (joined chunks))
+  pub full : 0 < length rest → length (joined chunks) ≡ 64 * length chunks
   pub enough : length chunks ≤ n
 
-pub so_far_none : (text : List ℕ) (n : ℕ) → SoFar text n 0 []
-so_far_none text n = record { joined_are = refl; few = refl; enough = omega arith }
+pub so_far_none : (text : List ℕ) (n : ℕ) → SoFar text text n []
+so_far_none text n = record { joined_are = refl; few = refl; full = λ _. refl; enough = omega arith }
 
 -- Chunks put behind others.
 behind : (chunks new : List (List ℕ)) (end : ℕ) → end ≡ length chunks → replaced end end new chunks ≡ chunks ++ new
@@ -30,59 +28,42 @@ behind chunks new end e =
     let nil : new ++ [] ≡ new = append-nil new in
     cc
 
--- The k-th piece goes up to `to`.
-module _ (text : List ℕ) (n k to : ℕ) (ends : to ≡ k * 1024 + min (length text - k * 1024) 1024) where
-  abbrev pub piece : List ℕ
-  piece = between (k * 1024) to text
+-- The test by which the tree takes a piece at its end.
+abbrev pub taken : List ℕ → List (List ℕ) → ℕ → ℕ → Bool
+taken piece chunks end m = leb end end && (leb end (length chunks) && leb (length chunks - (end - end) + needed (length piece)) m)
 
-  reach : take to text ≡ take ((k + 1) * 1024) text
-  reach =
-      ⊎_elim
-      (λ h. take_all to text (omega arith) ∙ sym (take_all ((k + 1) * 1024) text (omega arith)))
-      (λ h. let e : to ≡ (k + 1) * 1024 = omega arith in ap (λ j. take j text) e)
-      (cases_lt (length text - k * 1024) 1024)
+-- One piece more.
+module _ (text rest left piece : List ℕ) (n end m : ℕ) (chunks : List (List ℕ)) (so_far : SoFar text rest n chunks) (cut_off : rest ≡ piece ++ left)
+    (long : length piece ≡ min 1024 (length rest)) (some : 0 < length rest) (at_end : end ≡ length chunks) (all : m ≡ n) where
+  pub so_far_more : (after : List (List ℕ)) → after ≡ replaced end end (cut piece) chunks → true ≡ taken piece chunks end m → SoFar text left n after
+  so_far_more after is fits =
+      let both : after ≡ chunks ++ cut piece = is ∙ behind chunks (cut piece) end at_end in
+      let count = ap length both ∙ length-append chunks (cut piece) in
+      let bytes : joined after ≡ joined chunks ++ piece = ap joined both ∙ joined_append chunks (cut piece) ∙ ap (λ l. joined chunks ++ l) (cut_joined piece) in
+      let size = ap length bytes ∙ length-append (joined chunks) piece in
+      let full = so_far.full some in
+      let split = ap length cut_off ∙ length-append piece left in
+      record {
+        joined_are = ap (λ l. l ++ left) bytes ∙ append_assoc (joined chunks) piece left ∙ ap (λ l. joined chunks ++ l) (sym cut_off) ∙ so_far.joined_are;
+        few = omega (arith, cut_length piece);
+        full = λ h. omega (arith, cut_length piece);
+        enough = let room : length chunks - (end - end) + needed (length piece) ≤ m = grind (arith, nat_tests) in omega (arith, cut_length piece);
+      }
 
-  further : take (k * 1024) text ++ piece ≡ take ((k + 1) * 1024) text
-  further =
-      let front = take-take (k * 1024) to text (omega arith) in
-      let whole = take-append-drop (k * 1024) (take to text) in
-      let part = between_is text (k * 1024) to in
-      let all = reach in
-      cc
-
-  -- The test by which the tree takes a piece at its end.
-  abbrev pub taken : List (List ℕ) → ℕ → ℕ → Bool
-  taken chunks end m = leb end end && (leb end (length chunks) && leb (length chunks - (end - end) + needed (length piece)) m)
-
-  module _ (chunks : List (List ℕ)) (end m : ℕ) (so_far : SoFar text n k chunks) (some : k * 1024 < length text) (at_end : end ≡ length chunks) (all : m ≡ n) where
-    pub so_far_more : (after : List (List ℕ)) → after ≡ replaced end end (cut piece) chunks → true ≡ taken chunks end m → SoFar text n (k + 1) after
-    so_far_more after is fits =
-        let both : after ≡ chunks ++ cut piece = is ∙ behind chunks (cut piece) end at_end in
-        let long = ap length both ∙ length-append chunks (cut piece) in
-        let size = between_long (k * 1024) to text (omega arith) in
-        record {
-          joined_are = ap joined both ∙ joined_append chunks (cut piece) ∙ ap (λ l. l ++ joined (cut piece)) so_far.joined_are ∙ ap (λ l. take (k * 1024) text ++ l) (cut_joined piece) ∙ further;
-          few = omega (arith, so_far.few, cut_length piece, length-take (k * 1024) text, length-take ((k + 1) * 1024) text);
-          enough = let room : length chunks - (end - end) + needed (length piece) ≤ m = grind (arith, nat_tests) in omega (arith, cut_length piece);
-        }
-
-    pub so_far_full : false ≡ taken chunks end m → n < needed (length text)
-    so_far_full over =
-        let room : m < length chunks - (end - end) + needed (length piece) = grind (arith, nat_tests) in
-        omega (arith, so_far.few, between_long (k * 1024) to text (omega arith), length-take (k * 1024) text)
+  pub so_far_full : false ≡ taken piece chunks end m → n < needed (length text)
+  so_far_full over =
+      let room : m < length chunks - (end - end) + needed (length piece) = grind (arith, nat_tests) in
+      let whole = ap length so_far.joined_are in
+      omega (arith, so_far.full some, length-append (joined chunks) rest)
 
 -- All pieces are in.
-module _ (text : List ℕ) (n k : ℕ) (chunks : List (List ℕ)) (so_far : SoFar text n k chunks) (all : length text ≤ k * 1024) where
+module _ (text rest : List ℕ) (n : ℕ) (chunks : List (List ℕ)) (so_far : SoFar text rest n chunks) (all : length rest ≡ 0) where
   pub so_far_all : joined chunks ≡ text
-  so_far_all = so_far.joined_are ∙ take_all (k * 1024) text all
+  so_far_all = sym (append-nil (joined chunks)) ∙ ap (λ l. joined chunks ++ l) (sym (nil_from_length rest all)) ∙ so_far.joined_are
 
   pub so_far_few : length chunks ≡ needed (length text)
-  so_far_few = so_far.few ∙ ap (λ l. needed (length l)) (take_all (k * 1024) text all)
-
-and_grouped : (x y z : Bool) → (x && (y && z)) ≡ ((x && y) && z)
-and_grouped true y z = refl
-and_grouped false y z = refl
+  so_far_few = so_far.few ∙ ap (λ l. needed (length l)) so_far_all
 
 -- A new tree can be prepared exactly if lent memory has room.
 pub room_is : {R : Type 0} (T : ChunkTree R) (n : ℕ) (lent : List (Slot R)) (store : List ℕ) (readings : List R) → T.memory.usable ≡ 0 → T.memory.slots.now ≡ lent → T.memory.store.now ≡ store → T.memory.readings.now ≡ readings → preparable T n ≡ roomy n lent store readings
-room_is T n lent store readings e s b r = simp (e, s, b, r) (and_grouped (leb 1 n) (leb n 4096) _)
+room_is T n lent store readings e s b r = simp (e, s, b, r) (sym (and_assoc (leb 1 n) (leb n 4096) _))

@@ -6,6 +6,7 @@ use crate::loaded::Loaded;
 use report::summary_text;
 use std::alloc::{AllocError, Global};
 
+// No Display: that would say a second time what is said of a text without an extent.
 pub fn loaded_text(heap: Global, loaded: Loaded) -> Result<String, AllocError>
     ensures { IfOk result (λ s. string_bytes s ≡ loaded_lines loaded) }
 {

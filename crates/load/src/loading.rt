@@ -3,22 +3,20 @@ ghost use Rattle.load.specs.Loading.{Answers, roomy};
 
 use crate::loaded::Loaded;
 use grammar::Grammar;
-use measure::pair_reading::PairReading;
-use measure::place_reading::Extent;
-use measure::walk_reading::Passage;
-use meter::{Blank, Pair, Place};
+use meter::Blank;
 use report::summarize;
 use slots::slot::Slot;
 use tree::ChunkTree;
-use walks::{DocumentMeter, Walk};
+use walks::{Readings, document_meter};
 
 // What the document's meter reads, with a host that measures nothing.
-pub type Reading = PairReading<Option<Passage>, PairReading<Option<Extent>, ()>>;
+pub type Reading = Readings<()>;
 
 // How many bytes are put in at a time: 16 whole chunks.
 const PIECE: usize = 1024;
 
 // Nothing where the text needs more chunks than `usable`, or where lent memory has no room for as many slots.
+// No struct: a host lends slots, store and readings apart, each with a length of its own.
 pub fn load<G: Grammar + Copy>(
     grammar: &G,
     usable: u16,
@@ -29,22 +27,14 @@ pub fn load<G: Grammar + Copy>(
 ) -> Option<Loaded>
     ensures { Answers (roomy usable slots.old store.old readings.old) (G.Grammar.meaning grammar.now) usable text.now result }
 {
-    let meter: DocumentMeter<G, Blank> = Pair {
-        first: Walk { grammar: *grammar },
-        second: Pair {
-            first: Place,
-            second: Blank,
-        },
-    };
+    let meter = document_meter(*grammar, Blank);
     let mut tree = ChunkTree::new(slots, store, readings);
     if !tree.prepare(usable) {
         return None;
     }
-    for k in 0..text.len().div_ceil(PIECE) {
-        let from = k * PIECE;
-        let to = from + (text.len() - from).min(PIECE);
+    for piece in text.chunks(PIECE) {
         let end = tree.chunks();
-        if !tree.replace(&meter, end, end, &text[from..to]) {
+        if !tree.replace(&meter, end, end, piece) {
             return None;
         }
     }

@@ -35,7 +35,7 @@ pub fn load_text<G: Grammar + Copy>(
 ) -> Result<Option<Loaded>, AllocError>
     ensures { IfOk result (Answers (usual usable) (G.Grammar.meaning grammar.now) usable text.now) }
 {
-    let room = usable as usize;
+    let room = usize::from(usable);
     let mut slots = vec![in heap; UNUSED; room]?;
     let mut store = vec![in heap; 0; 64 * room]?;
     let mut readings = vec![in heap; UNREAD; room]?;

@@ -7,11 +7,6 @@ pub const MOST: u16 = 4096;
 pub fn slots_named(word: &str) -> Option<u16>
     ensures { SlotsNamed word.now result }
 {
-    let Ok(count) = word.parse::<u16>() else {
-        return None;
-    };
-    if count < 1 || count > MOST {
-        return None;
-    }
-    Some(count)
+    let count = word.parse::<u16>().ok()?;
+    (1..=MOST).contains(&count).then_some(count)
 }

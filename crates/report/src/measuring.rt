@@ -6,9 +6,9 @@ use crate::summary::Summary;
 use grammar::Grammar;
 use measure::place_reading::Extent;
 use measure::walk_reading::Passage;
-use meter::{Blank, Meter, Pair, Place};
+use meter::{Blank, Meter};
 use std::alloc::{AllocError, Global};
-use walks::{DocumentMeter, Walk};
+use walks::document_meter;
 
 // The readings of Walk and of Place as one summary, from state 0.
 pub fn summarize(walk: &Option<Passage>, place: &Option<Extent>) -> Option<Summary>
@@ -34,13 +34,7 @@ pub fn summarize(walk: &Option<Passage>, place: &Option<Extent>) -> Option<Summa
 pub fn summary_of<G: Grammar + Copy>(grammar: &G, text: &[u8]) -> Option<Summary>
     ensures { result ≡ text_summary (G.Grammar.meaning grammar.now) text.now }
 {
-    let meter: DocumentMeter<G, Blank> = Pair {
-        first: Walk { grammar: *grammar },
-        second: Pair {
-            first: Place,
-            second: Blank,
-        },
-    };
+    let meter = document_meter(*grammar, Blank);
     let reading = meter.measure(text);
     summarize(&reading.first, &reading.second.first)
 }

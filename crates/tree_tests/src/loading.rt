@@ -13,10 +13,7 @@ fn several_pieces_are_loaded(rt: HostRuntime) -> Result<(), Fail> {
         below: Comment { below: Words },
     };
     let mut dice = Dice { state: 2 };
-    let mut text = Vec::new(heap);
-    for _ in 0..3000 {
-        text.push(dice.letter())?;
-    }
+    let text: Vec<u8> = (0..3000).map(|_| dice.letter()).collect(heap)?;
     assert!(rt; load_text(heap, &grammar, 46, &text)?.is_none());
     let loaded = load_text(heap, &grammar, 47, &text)?.ok_or("no room")?;
     let height = loaded.height;

@@ -31,11 +31,11 @@ impl Plain {
     fn before(&self, chunk: usize) -> usize
         ensures { result ≤ vec_len self.now.text }
     {
-        let mut bytes = 0usize;
-        for length in self.lengths.iter().take(chunk) {
-            bytes = bytes.saturating_add(*length);
-        }
-        bytes.min(self.text.len())
+        self.lengths
+            .iter()
+            .take(chunk)
+            .fold(0usize, |bytes, length| bytes.saturating_add(*length))
+            .min(self.text.len())
     }
 
     // What comes of putting so many bytes for the chunks from `from` up to `to` where there are `slots`.
@@ -59,19 +59,13 @@ impl Plain {
         bytes: &[u8],
     ) -> Result<Plain, AllocError> {
         let mut text = Vec::new(heap);
-        let begin = self.before(from);
-        let end = self.before(to);
-        text.extend_from_slice(&self.text[0..begin])?;
+        text.extend_from_slice(&self.text[..self.before(from)])?;
         text.extend_from_slice(bytes)?;
-        text.extend_from_slice(&self.text[end..])?;
+        text.extend_from_slice(&self.text[self.before(to)..])?;
         let mut lengths = Vec::new(heap);
-        for length in self.lengths.iter().take(from) {
-            lengths.push(*length)?;
-        }
+        lengths.extend(self.lengths.iter().take(from).copied())?;
         push_shares(&mut lengths, bytes.len())?;
-        for length in self.lengths.iter().skip(to) {
-            lengths.push(*length)?;
-        }
+        lengths.extend(self.lengths.iter().skip(to).copied())?;
         Ok(Plain { text, lengths })
     }
 }

@@ -43,11 +43,8 @@ fn meter() -> Pair<Walk<Quoted<Comment<Words>>>, Place> {
 // Some bytes: a few, or up to four chunks of them.
 fn some_bytes(heap: Global, dice: &mut Dice) -> Result<Vec<u8>, AllocError> {
     let most = if dice.roll(1) == 0 { 200 } else { 9 };
-    let mut bytes = Vec::new(heap);
-    for _ in 0..dice.roll(most) {
-        bytes.push(dice.letter())?;
-    }
-    Ok(bytes)
+    let count = dice.roll(most);
+    (0..count).map(|_| dice.letter()).collect(heap)
 }
 
 // On what the tree and the plain lists do not agree.
@@ -64,62 +61,69 @@ enum On {
 }
 
 fn agreed(holds: bool, on: On) -> Result<(), On> {
-    if holds { Ok(()) } else { Err(on) }
+    holds.then_some(()).ok_or(on)
 }
 
-// The tree has the bytes and the chunks of the plain lists, and the meter's readings of them.
-fn agree(dice: &mut Dice, tree: &ChunkTree<Reading>, plain: &Plain) -> Result<(), Fail> {
-    agreed(tree.bytes() as usize == plain.text.len(), On::Bytes)?;
-    agreed(tree.chunks() as usize == plain.lengths.len(), On::Chunks)?;
-    agreed(tree.same(0, &plain.text), On::Text)?;
-    let mut place = 0u32;
-    for (k, length) in plain.lengths.iter().enumerate() {
-        let first = tree.spot(place);
-        agreed(
-            first.chunk as usize == k && first.inside == 0,
-            On::FirstPlace,
-        )?;
-        place = place.saturating_add(u32::try_from(*length)?);
-        let last = tree.spot(place.saturating_sub(1));
-        agreed(
-            last.chunk as usize == k && last.inside as usize == length.saturating_sub(1),
-            On::LastPlace,
-        )?;
-    }
-    agreed(
-        tree.reading(&meter(), 0, tree.bytes()) == meter().measure(&plain.text),
-        On::WholeReading,
-    )?;
-    let end = (dice.roll(2000) as usize).min(plain.text.len());
-    let begin = (dice.roll(2000) as usize).min(end);
-    let part = tree.reading(&meter(), u32::try_from(begin)?, u32::try_from(end)?);
-    agreed(
-        part == meter().measure(&plain.text[begin..end]),
-        On::PartReading,
-    )?;
-    Ok(())
+// A tree and plain lists, to which the same is done.
+#[derive(Drop)]
+struct Both<'t> {
+    dice: Dice,
+    tree: ChunkTree<'t, Reading>,
+    plain: Plain,
 }
 
-// One replacement in both: it is done, or refused with nothing changed, as the plain lists foresee.
-fn replace_in_both(
-    heap: Global,
-    dice: &mut Dice,
-    tree: &mut ChunkTree<Reading>,
-    plain: &mut Plain,
-) -> Result<Outcome, Fail> {
-    let bytes = some_bytes(heap, dice)?;
-    let from = dice.roll(tree.chunks());
-    let to = from
-        .saturating_add(dice.roll(3))
-        .saturating_sub(dice.roll(1));
-    let outcome = plain.outcome(SLOTS as usize, from as usize, to as usize, bytes.len());
-    let done = tree.replace(&meter(), from, to, &bytes);
-    agreed(done == matches!(outcome, Outcome::Done), On::Outcome)?;
-    if done {
-        *plain = plain.replaced(heap, from as usize, to as usize, &bytes)?;
+impl Both<'_> {
+    // The tree has the bytes and the chunks of the plain lists, and the meter's readings of them.
+    fn agree(&mut self) -> Result<(), Fail> {
+        let Both { dice, tree, plain } = self;
+        agreed(tree.bytes() as usize == plain.text.len(), On::Bytes)?;
+        agreed(tree.chunks() as usize == plain.lengths.len(), On::Chunks)?;
+        agreed(tree.same(0, &plain.text), On::Text)?;
+        let mut place = 0u32;
+        for (k, length) in plain.lengths.iter().enumerate() {
+            let first = tree.spot(place);
+            agreed(
+                first.chunk as usize == k && first.inside == 0,
+                On::FirstPlace,
+            )?;
+            place = place.saturating_add(u32::try_from(*length)?);
+            let last = tree.spot(place.saturating_sub(1));
+            agreed(
+                last.chunk as usize == k && last.inside as usize == length.saturating_sub(1),
+                On::LastPlace,
+            )?;
+        }
+        agreed(
+            tree.reading(&meter(), 0, tree.bytes()) == meter().measure(&plain.text),
+            On::WholeReading,
+        )?;
+        let end = (dice.roll(2000) as usize).min(plain.text.len());
+        let begin = (dice.roll(2000) as usize).min(end);
+        let part = tree.reading(&meter(), u32::try_from(begin)?, u32::try_from(end)?);
+        agreed(
+            part == meter().measure(&plain.text[begin..end]),
+            On::PartReading,
+        )?;
+        Ok(())
     }
-    agree(dice, tree, plain)?;
-    Ok(outcome)
+
+    // One replacement: it is done, or refused with nothing changed, as the plain lists foresee.
+    fn replace(&mut self, heap: Global) -> Result<Outcome, Fail> {
+        let Both { dice, tree, plain } = self;
+        let bytes = some_bytes(heap, dice)?;
+        let from = dice.roll(tree.chunks());
+        let to = from
+            .saturating_add(dice.roll(3))
+            .saturating_sub(dice.roll(1));
+        let outcome = plain.outcome(SLOTS as usize, from as usize, to as usize, bytes.len());
+        let done = tree.replace(&meter(), from, to, &bytes);
+        agreed(done == matches!(outcome, Outcome::Done), On::Outcome)?;
+        if done {
+            *plain = plain.replaced(heap, from as usize, to as usize, &bytes)?;
+        }
+        self.agree()?;
+        Ok(outcome)
+    }
 }
 
 #[test]
@@ -130,13 +134,16 @@ fn tree_follows_plain_lists(rt: HostRuntime) -> Result<(), Fail> {
     let mut readings = vec![in heap; UNREAD; SLOTS as usize]?;
     let mut tree = ChunkTree::new(&mut slots, &mut store, &mut readings);
     assert!(rt; tree.prepare(SLOTS));
-    let mut dice = Dice { state: 1 };
-    let mut plain = Plain::new(heap);
+    let mut both = Both {
+        dice: Dice { state: 1 },
+        tree,
+        plain: Plain::new(heap),
+    };
     let mut done = 0u16;
     let mut no_run = 0u16;
     let mut no_room = 0u16;
     for _ in 0..600 {
-        match replace_in_both(heap, &mut dice, &mut tree, &mut plain)? {
+        match both.replace(heap)? {
             Outcome::Done => done = done.saturating_add(1),
             Outcome::NoRun => no_run = no_run.saturating_add(1),
             Outcome::NoRoom => no_room = no_room.saturating_add(1),

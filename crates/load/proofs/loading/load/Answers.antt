@@ -1,4 +1,5 @@
-use Rattle.std.proofs.Common.{◌≡◌, ◌+◌, ◌-◌, ◌*◌, ◌<◌, ◌≤◌, min, true, false, length, sym, refl, ap, ◌∙◌, subst, arith}
+use Rattle.std.proofs.Common.{◌≡◌, ◌≤◌, true, false, length, sym, refl, ap, ◌∙◌, subst, arith}
+use Rattle.std.specs.Slice.Iter.{chunks_rest}
 use Rattle.std.proofs.lemmas.List.{length-map}
 use Rattle.std.proofs.lemmas.Bool.{le-leb, lt-leb, and_from, and_left, and_right}
 use Rattle.measure.specs.Blank.{blank_measure}
@@ -11,27 +12,34 @@ use Rattle.chunks.specs.Cut.{needed, joined}
 use Rattle.slots.specs.View.{chunk_of}
 use Rattle.slots.proofs.Ranges.{between_all}
 use Rattle.tree.specs.Public.{tree_in, chunks_now}
+use Rattle.report.specs.Summary.{summary}
 use Rattle.report.proofs.Summarized.{summarized_is}
 use Rattle.load.specs.Loading.{roomy}
 use Rattle.load.proofs.Piecewise.{SoFar, so_far_none, so_far_more, so_far_full, so_far_all, so_far_few, room_is}
 use Rattle.load.proofs.loading.load.Goals as goal
 
-pub loop-k-init : goal.loop-k-init
-loop-k-init g c =
+pub loop-piece-init : goal.loop-piece-init
+loop-piece-init g c =
     let made = c.if-not-prepare.ensures in
-    (subst (SoFar c.args.text.now c.args.usable 0) (sym made.chunks) (so_far_none c.args.text.now c.args.usable), made.usable, made.keeps refl _)
+    let whole : chunks_rest c.into_iter-piece-iterator.result ≡ c.args.text.now = cc in
+    record {
+      pieces = cc;
+      so_far = subst (SoFar c.args.text.now (chunks_rest c.into_iter-piece-iterator.result) c.args.usable) (sym made.chunks) (rw whole (so_far_none c.args.text.now c.args.usable));
+      usable = made.usable;
+      kept = made.keeps refl _;
+    }
 
-pub loop-k-preserved : goal.loop-k-preserved
-loop-k-preserved g c =
+pub loop-piece-preserved : goal.loop-piece-preserved
+loop-piece-preserved g c =
     let done = c.if-not-replace.ensures in
-    let text = c.args.text.now in
-    let k = c.loop-k.k in
-    let some : k * 1024 < length text = omega arith in
-    let ends : k * 1024 + c.min.result ≡ k * 1024 + min (length text - k * 1024) 1024 = ap (λ n. k * 1024 + n) c.min.ensures in (
-      so_far_more text c.args.usable k (k * 1024 + c.min.result) ends (chunks_now c.loop-k.tree) c.chunks-end.result c.loop-k.tree.memory.usable c.loop-k.invariant.0 some c.chunks-end.ensures.is c.loop-k.invariant.1 _ done.chunks done.answer,
-      done.size.usable ∙ c.loop-k.invariant.1,
-      done.keeps c.loop-k.invariant.2,
-    )
+    let loop = c.loop-piece.invariant in
+    let next = c.in-Some.ensures.steps in
+    record {
+      pieces = next.0 ∙ loop.pieces;
+      so_far = so_far_more c.args.text.now (chunks_rest c.loop-piece.piece-iterator) (chunks_rest c.next.new.self) c.in-Some.piece.now c.args.usable c.chunks-end.result c.loop-piece.tree.memory.usable (chunks_now c.loop-piece.tree) loop.so_far next.1.0 (rw loop.pieces at next.1.1) next.1.2 c.chunks-end.ensures.is loop.usable _ done.chunks done.answer;
+      usable = done.size.usable ∙ loop.usable;
+      kept = done.keeps loop.kept;
+    }
 
 pub returns-then-not-prepare : goal.returns-then-not-prepare
 returns-then-not-prepare g c =
@@ -43,38 +51,38 @@ returns-then-not-prepare g c =
 pub returns-then-not-replace : goal.returns-then-not-replace
 returns-then-not-replace g c =
     let text = c.args.text.now in
-    let k = c.loop-k.k in
     let n = c.args.usable in
-    let some : k * 1024 < length text = omega arith in
-    let ends : k * 1024 + c.min.result ≡ k * 1024 + min (length text - k * 1024) 1024 = ap (λ n. k * 1024 + n) c.min.ensures in
-    let over = so_far_full text n k (k * 1024 + c.min.result) ends (chunks_now c.loop-k.tree) c.chunks-end.result c.loop-k.tree.memory.usable c.loop-k.invariant.0 some c.chunks-end.ensures.is c.loop-k.invariant.1 c.if-not-replace.ensures.answer in
+    let loop = c.loop-piece.invariant in
+    let next = c.in-Some.ensures.steps in
+    let over = so_far_full text (chunks_rest c.loop-piece.piece-iterator) (chunks_rest c.next.new.self) c.in-Some.piece.now n c.chunks-end.result c.loop-piece.tree.memory.usable (chunks_now c.loop-piece.tree) loop.so_far next.1.0 (rw loop.pieces at next.1.1) next.1.2 c.chunks-end.ensures.is loop.usable c.if-not-replace.ensures.answer in
     and_right _ _ (lt-leb (needed (length text)) n over)
 
 pub returns : goal.returns
 returns g c =
     let n = c.args.usable in
     let text = c.args.text.now in
-    let k = c.loop-k.k in
-    let a = g.G.Grammar.meaning c.args.grammar.now in
-    let tree = c.loop-k.tree in
+    let grammar = c.document_meter-meter.result.first.grammar in
+    let a = g.G.Grammar.meaning grammar in
+    let tree = c.loop-piece.tree in
     let chunks = chunks_now tree in
-    let so_far = c.loop-k.invariant.0 in
-    let all : length text ≤ k * 1024 = omega arith in
-    let whole = so_far_all text n k chunks so_far all in
-    let few = so_far_few text n k chunks so_far all in
+    let so_far = c.loop-piece.invariant.so_far in
+    let rest = chunks_rest c.loop-piece.piece-iterator in
+    let all : length rest ≡ 0 = c.in-None.ensures.steps.1.0 in
+    let whole = so_far_all text rest n chunks so_far all in
+    let few = so_far_few text rest n chunks so_far all in
     let made = c.new-tree.ensures in
     let room = room_is c.new-tree.result n c.args.slots.now c.args.store.now c.args.readings.now made.usable made.slots made.store made.readings in
     let can : roomy n c.args.slots.now c.args.store.now c.args.readings.now ≡ true = sym room ∙ sym c.if-not-prepare.ensures.answer in
     let enough : needed (length text) ≤ n = omega (arith, few, so_far.enough) in
     let μ = pair_measure (walk_measure a) (pair_measure place_measure blank_measure) in
     let total : length (joined chunks) ≤ c.bytes-bytes.result = omega (arith, c.bytes-bytes.ensures.is) in
-    let read : c.reading-reading.result ≡ reading μ text = c.reading-reading.ensures c.loop-k.invariant.2 ∙ ap (reading μ) (between_all c.bytes-bytes.result (joined chunks) total ∙ whole) in (
+    let read : c.reading-reading.result ≡ reading μ text = c.reading-reading.ensures c.loop-piece.invariant.kept ∙ ap (reading μ) (between_all c.bytes-bytes.result (joined chunks) total ∙ whole) in (
       and_from _ _ can (le-leb (needed (length text)) n enough),
       record {
         bytes_are = c.bytes-bytes.ensures.is ∙ ap length whole;
         chunks_are = c.chunks.ensures.is ∙ few;
         height_is = (tree_in tree, c.height.ensures.balanced, sym (length-map (slots (tree_in tree)) (chunk_of tree.memory)) ∙ sym c.chunks.ensures.is, sym c.height.ensures.is);
         low = c.height.ensures.low;
-        summary_is = c.summarize.ensures ∙ summarized_is a text (g.G.Grammar.lawful c.args.grammar.now) blank_measure c.reading-reading.result read;
+        summary_is = c.summarize.ensures ∙ summarized_is a text (g.G.Grammar.lawful grammar) blank_measure c.reading-reading.result read ∙ ap (λ x. summary (g.G.Grammar.meaning x) text) c.document_meter-meter.ensures.grammar;
       },
     )
