@@ -3,6 +3,7 @@
 
 #![tactic(auto)]
 
+// Meter and memory go as two parameters: as one value, each clause would say `self.old.memory.now` for `memory.old`.
 pub mod build;
 pub mod cut;
 pub mod free;

@@ -3,4 +3,5 @@
 
 #![tactic(auto)]
 
+// Meter and memory go as two parameters: as one value, each clause would say `self.old.memory.now` for `memory.old`.
 pub mod rewrite;

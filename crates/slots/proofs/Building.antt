@@ -1,5 +1,6 @@
 -- A tree made of free slots: one side, a slot with its chunk, the other side, joined.
 use Rattle.std.proofs.Common.{◌≡◌, ℕ, suc, ◌+◌, ◌<◌, ◌≤◌, List, [], ◌∷◌, ◌++◌, map, length, get_or, take, drop, Option, sym, refl, ap, ◌∙◌, subst, add-one, arith}
+use Rattle.std.proofs.Math.Seq.{take-append-add, drop-append-add}
 use Rattle.std.proofs.lemmas.List.{take-append-drop, length-take-le, length-drop, drop_more, map-append}
 use Rattle.measure.specs.Measure.{Measure}
 use Rattle.chunks.specs.declared.side.Side.TheVariants.{Left}
@@ -16,7 +17,6 @@ use Rattle.slots.specs.Join.{Joined}
 use Rattle.slots.specs.Free.{Stack, Idle, Elsewhere, Stored, Built}
 use Rattle.slots.proofs.Frame.{chunk_same}
 use Rattle.slots.proofs.Elsewhere.{elsewhere_trans, elsewhere_more, elsewhere_none, elsewhere_frame, size_elsewhere, roomy_elsewhere, stack_elsewhere, chunks_elsewhere, holds_elsewhere, owned_elsewhere}
-use Rattle.slots.proofs.Splitting.{take_plus, drop_plus}
 
 -- Some free slots first, one, and some more.
 module _ (is : List ℕ) (h : ℕ) (i : ℕ) (js : List ℕ) (r : ℕ) (next : drop h is ≡ i ∷ js) (enough : h ≤ length is) where
@@ -27,10 +27,10 @@ module _ (is : List ℕ) (h : ℕ) (i : ℕ) (js : List ℕ) (r : ℕ) (next : d
   sum = let e = length-take-le h is enough in omega arith
 
   pub take_both : take (h + suc r) is ≡ take h is ++ (i ∷ take r js)
-  take_both = ap (λ n. take n is) sum ∙ ap (take (length (take h is) + suc r)) front_is ∙ take_plus (take h is) (i ∷ js) (suc r)
+  take_both = ap (λ n. take n is) sum ∙ ap (take (length (take h is) + suc r)) front_is ∙ take-append-add (take h is) (i ∷ js) (suc r)
 
   pub drop_both : drop (h + suc r) is ≡ drop r js
-  drop_both = ap (λ n. drop n is) sum ∙ ap (drop (length (take h is) + suc r)) front_is ∙ drop_plus (take h is) (i ∷ js) (suc r)
+  drop_both = ap (λ n. drop n is) sum ∙ ap (drop (length (take h is) + suc r)) front_is ∙ drop-append-add (take h is) (i ∷ js) (suc r)
 
   pub count_all : (j : ℕ) → count is j ≡ count (take h is) j + (one i j + count js j)
   count_all j = ap (λ l. count l j) front_is ∙ count_append (take h is) (i ∷ js) j

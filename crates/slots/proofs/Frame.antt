@@ -1,6 +1,8 @@
 -- Frames put together, and what stays true under one.
-use Rattle.std.proofs.Common.{◌≡◌, ℕ, zero, suc, ◌+◌, ◌*◌, ◌<◌, List, [], ◌∷◌, map, length, get_or, take, drop, set, sym, refl, ap, ◌∙◌, arith}
-use Rattle.std.proofs.lemmas.List.{map-set, set-get_or, length-set, get_or-set_other}
+use Rattle.std.proofs.Common.{◌≡◌, ℕ, ◌+◌, ◌*◌, ◌<◌, List, map, length, get_or, take, drop, set, sym, refl, ap, ◌∙◌, arith}
+use Rattle.std.proofs.lemmas.List.{length-set, get_or-set_other}
+use Rattle.std.proofs.Math.ListN.{get_or-map}
+use Rattle.std.proofs.Math.Seq.{map-set_same}
 use Rattle.chunks.specs.Tree.{Tree, slots, height}
 use Rattle.chunks.specs.Footprint.{one}
 use Rattle.chunks.specs.Cut.{joined}
@@ -9,15 +11,6 @@ use Rattle.slots.specs.declared.memory.Memory.{Memory}
 use Rattle.slots.specs.declared.slot.Slot.{Slot}
 use Rattle.slots.specs.View.{chunk_of, chunks_of, text_of, extent_of, size_of, Roomy}
 use Rattle.slots.specs.Frame.{Frame}
-
-pub get_or_mapped : {X Y : Type 0} (f : X → Y) (xs : List X) (i : ℕ) (d : X) → get_or (map f xs) i (f d) ≡ f (get_or xs i d)
-get_or_mapped f [] i d = refl
-get_or_mapped f (x ∷ xs) zero d = refl
-get_or_mapped f (x ∷ xs) (suc i) d = get_or_mapped f xs i d
-
--- A write that leaves what f sees leaves the list of what f sees.
-pub map_kept : {X Y : Type 0} (f : X → Y) (xs : List X) (i : ℕ) (x : X) → f x ≡ f (get_or xs i x) → map f (set xs i x) ≡ map f xs
-map_kept f xs i x e = map-set f xs i x ∙ ap (set (map f xs) i) (e ∙ sym (get_or_mapped f xs i x)) ∙ set-get_or (map f xs) i (f x)
 
 module _ {R : Type 0} where
   pub frame_trans : (m n o : Memory R) (f g : ℕ → ℕ) → Frame m n f → Frame n o g → Frame m o (λ j. f j + g j)
@@ -77,7 +70,7 @@ module _ {R : Type 0} where
         record { few = omega arith; slot_each = omega arith; reading_each = omega arith; store_each = omega arith }
 
     pub own_same : (i : ℕ) (d : Slot R) → (get_or n.slots.now i d).own ≡ (get_or m.slots.now i d).own
-    own_same i d = sym (get_or_mapped (λ (s : Slot R). s.own) n.slots.now i d) ∙ ap (λ (z : List R). get_or z i d.own) p.owns ∙ get_or_mapped (λ (s : Slot R). s.own) m.slots.now i d
+    own_same i d = sym (get_or-map (λ (s : Slot R). s.own) n.slots.now i d) ∙ ap (λ (z : List R). get_or z i d.own) p.owns ∙ get_or-map (λ (s : Slot R). s.own) m.slots.now i d
 
   -- One slot and one reading written, the slot's chunk, own reading and free link as they were.
   pub frame_written : (m n : Memory R) (i : ℕ) (slot : Slot R) (v : R) → i < length m.slots.now →
@@ -90,9 +83,9 @@ module _ {R : Type 0} where
     store = store;
     slot_count = ap length slots ∙ length-set m.slots.now i slot;
     reading_count = ap length readings ∙ length-set m.readings.now i v;
-    sizes = ap (map (λ s. s.size)) slots ∙ map_kept (λ (s : Slot R). s.size) m.slots.now i slot size;
-    nexts = ap (map (λ s. s.next)) slots ∙ map_kept (λ (s : Slot R). s.next) m.slots.now i slot next;
-    owns = ap (map (λ s. s.own)) slots ∙ map_kept (λ (s : Slot R). s.own) m.slots.now i slot own;
+    sizes = ap (map (λ s. s.size)) slots ∙ map-set_same (λ (s : Slot R). s.size) m.slots.now i slot slot size;
+    nexts = ap (map (λ s. s.next)) slots ∙ map-set_same (λ (s : Slot R). s.next) m.slots.now i slot slot next;
+    owns = ap (map (λ s. s.own)) slots ∙ map-set_same (λ (s : Slot R). s.own) m.slots.now i slot slot own;
     slots_apart = λ j h d. ap (λ (z : List (Slot R)). get_or z j d) slots ∙ get_or-set_other m.slots.now i j slot d (λ e. one_other i j h (sym e));
     readings_apart = λ j h d. ap (λ (z : List R). get_or z j d) readings ∙ get_or-set_other m.readings.now i j v d (λ e. one_other i j h (sym e));
   }

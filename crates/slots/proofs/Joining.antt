@@ -17,14 +17,14 @@ use Rattle.slots.proofs.Turning.{parts, joined_linked, ready_inner, ready_outer,
 use Rattle.slots.proofs.Rotating.{Seen}
 
 -- What holds of an element for every default holds of the list of what f sees.
-at_any : {X : Type 0} (xs : List X) (i : ℕ) → i < length xs → (f : X → ℕ) {h : ℕ} → ((d : X) → f (get_or xs i d) ≡ h) → get_or (map f xs) i 0 ≡ h
-at_any [] i within f is = let no : ⊥ = omega arith in absurd no
-at_any (x ∷ xs) zero within f is = is x
-at_any (x ∷ xs) (suc i) within f is = at_any xs i (omega arith) f is
+pub at_any : {X Y : Type 0} (xs : List X) (i : ℕ) → i < length xs → (f : X → Y) (e : Y) {h : Y} → ((d : X) → f (get_or xs i d) ≡ h) → get_or (map f xs) i e ≡ h
+at_any [] i within f e is = let no : ⊥ = omega arith in absurd no
+at_any (x ∷ xs) zero within f e is = is x
+at_any (x ∷ xs) (suc i) within f e is = at_any xs i (omega arith) f e is
 
 module _ {R : Type 0} where
   height_read : (m : Memory R) (i : ℕ) {h : ℕ} → i < length m.slots.now → ((d : Slot R) → (get_or m.slots.now i d).node.extent.height ≡ h) → height_at m (Some i) ≡ h
-  height_read m i within is = at_any m.slots.now i within (λ (s : Slot R). s.node.extent.height) is
+  height_read m i within is = at_any m.slots.now i within (λ (s : Slot R). s.node.extent.height) 0 is
 
   -- The height that memory says is the tree's.
   pub height_held : (m : Memory R) → Roomy m → (t : Tree) (link : Option ℕ) → link ≡ root t → Holds nothing m t → height_at m link ≡ height t

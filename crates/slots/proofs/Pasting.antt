@@ -2,7 +2,7 @@
 use Rattle.std.proofs.Common.{◌≡◌, ℕ, ◌+◌, ◌≤◌, List, [], ◌++◌, length, take, drop, sym, ap, ◌∙◌, append_assoc, arith}
 use Rattle.std.proofs.lemmas.List.{length-append, length-take-le, length-drop, take_at, drop-drop, take-append-drop}
 use Rattle.slots.specs.Copy.{pasted, Copied}
-use Rattle.slots.proofs.Splitting.{drop_plus}
+use Rattle.std.proofs.Math.Seq.{drop-append-add}
 
 module _ (out xs : List ℕ) (at : ℕ) (room : at + length xs ≤ length out) where
   front : length (take at out ++ xs) ≡ at + length xs
@@ -23,7 +23,7 @@ module _ (out xs : List ℕ) (at : ℕ) (room : at + length xs ≤ length out) w
       let tail : drop (n + length ys) (pasted out at xs) ≡ drop (n + length ys) out =
       ap (drop (n + length ys)) flat
       ∙ ap (λ k. drop (k + length ys) ((take at out ++ xs) ++ drop n out)) (sym front)
-      ∙ drop_plus (take at out ++ xs) (drop n out) (length ys)
+      ∙ drop-append-add (take at out ++ xs) (drop n out) (length ys)
       ∙ drop-drop (length ys) n out
       in
       let long : n + length ys ≡ at + length (xs ++ ys) = omega (arith, length-append xs ys) in

@@ -1,5 +1,5 @@
 -- What is read off memory is what memory holds; and soundness has one proof at most, so that nothing of it is lost.
-use Rattle.std.proofs.Common.{◌≡◌, ℕ, zero, suc, ◌<◌, ◌≤◌, List, [], ◌∷◌, map, length, get_or, Some, None, Option, sym, refl, ap, ◌∙◌, subst, arith}
+use Rattle.std.proofs.Common.{◌≡◌, ℕ, zero, suc, ◌≤◌, List, [], ◌∷◌, length, Some, None, Option, sym, refl, ap, ◌∙◌, subst, arith}
 use mathlib.Core.HLevel.{→_set}
 use mathlib.Core.Logic.{∥∥₁_elim}
 use native.Mathlib.Nat.{ℕ_set}
@@ -17,13 +17,7 @@ use Rattle.slots.specs.Free.{Stack}
 use Rattle.slots.specs.Replace.{Whole}
 use Rattle.slots.specs.Split.{Held}
 use Rattle.slots.specs.Sound.{left_of, right_of, read, read_free, tree_of, free_of, Sound}
-use Rattle.slots.proofs.Joining.{height_held}
-
--- What holds of an element for every default holds of the list of what f sees.
-at_any : {X Y : Type 0} (xs : List X) (i : ℕ) → i < length xs → (f : X → Y) (e : Y) {h : Y} → ((d : X) → f (get_or xs i d) ≡ h) → get_or (map f xs) i e ≡ h
-at_any [] i within f e is = let no : ⊥ = omega arith in absurd no
-at_any (x ∷ xs) zero within f e is = is x
-at_any (x ∷ xs) (suc i) within f e is = at_any xs i (omega arith) f e is
+use Rattle.slots.proofs.Joining.{at_any, height_held}
 
 module _ {R : Type 0} (m : Memory R) (roomy : Roomy m) where
   read_held : (n : ℕ) (t : Tree) (link : Option ℕ) → height t ≤ n → link ≡ root t → Holds nothing m t → read m n link ≡ t

@@ -1,6 +1,7 @@
 -- What cutting a tree rests on: at a slot, one side is cut, and the slot joins what is left of it with the other side.
-use Rattle.std.proofs.Common.{◌≡◌, ℕ, zero, suc, ◌+◌, ◌-◌, ◌<◌, ◌≤◌, List, [], ◌∷◌, ◌++◌, length, take, drop, Some, None, Option, IsSome, sym, refl, ap, ◌∙◌, subst, zero-add, arith}
+use Rattle.std.proofs.Common.{◌≡◌, ℕ, suc, ◌+◌, ◌-◌, ◌<◌, ◌≤◌, List, [], ◌∷◌, ◌++◌, length, take, drop, Some, None, Option, IsSome, sym, refl, ap, ◌∙◌, subst, arith}
 use Rattle.std.proofs.lemmas.List.{take-append-drop, take-append-le, drop-append-le, length-append, length-drop, append_assoc, nil_from_length}
+use Rattle.std.proofs.Math.Seq.{take-nil, drop-nil, take-append-add, drop-append-add}
 use Rattle.measure.specs.Measure.{Measure}
 use Rattle.chunks.specs.declared.side.Side.TheVariants.{Left}
 use Rattle.chunks.specs.Tree.{Tree, leaf, node, root, slots}
@@ -17,30 +18,13 @@ use Rattle.slots.proofs.Frame.{frame_trans, frame_more, frame_none, size_same, r
 use Rattle.slots.proofs.Holds.{holds_frame, owned_frame}
 use Rattle.slots.proofs.Rotating.{Seen}
 
-take_nil : (n : ℕ) → take {A = ℕ} n [] ≡ []
-take_nil zero = refl
-take_nil (suc n) = refl
-
-drop_nil : (n : ℕ) → drop {A = ℕ} n [] ≡ []
-drop_nil zero = refl
-drop_nil (suc n) = refl
-
--- Behind a list and one element more.
-pub take_plus : (xs ys : List ℕ) (n : ℕ) → take (length xs + n) (xs ++ ys) ≡ xs ++ take n ys
-take_plus [] ys n = simp zero-add
-take_plus (x ∷ xs) ys n = let e : suc (length xs) + n ≡ suc (length xs + n) = omega arith in ap (λ k. take k (x ∷ (xs ++ ys))) e ∙ ap (λ l. x ∷ l) (take_plus xs ys n)
-
-pub drop_plus : (xs ys : List ℕ) (n : ℕ) → drop (length xs + n) (xs ++ ys) ≡ drop n ys
-drop_plus [] ys n = simp zero-add
-drop_plus (x ∷ xs) ys n = let e : suc (length xs) + n ≡ suc (length xs + n) = omega arith in ap (λ k. drop k (x ∷ (xs ++ ys))) e ∙ drop_plus xs ys n
-
 take_behind : (xs ys : List ℕ) (i at : ℕ) → length xs < at → take at (xs ++ (i ∷ ys)) ≡ xs ++ (i ∷ take (at - length xs - 1) ys)
 take_behind xs ys i at h =
-    let e : at ≡ length xs + suc (at - length xs - 1) = omega arith in ap (λ k. take k (xs ++ (i ∷ ys))) e ∙ take_plus xs (i ∷ ys) (suc (at - length xs - 1))
+    let e : at ≡ length xs + suc (at - length xs - 1) = omega arith in ap (λ k. take k (xs ++ (i ∷ ys))) e ∙ take-append-add xs (i ∷ ys) (suc (at - length xs - 1))
 
 drop_behind : (xs ys : List ℕ) (i at : ℕ) → length xs < at → drop at (xs ++ (i ∷ ys)) ≡ drop (at - length xs - 1) ys
 drop_behind xs ys i at h =
-    let e : at ≡ length xs + suc (at - length xs - 1) = omega arith in ap (λ k. drop k (xs ++ (i ∷ ys))) e ∙ drop_plus xs (i ∷ ys) (suc (at - length xs - 1))
+    let e : at ≡ length xs + suc (at - length xs - 1) = omega arith in ap (λ k. drop k (xs ++ (i ∷ ys))) e ∙ drop-append-add xs (i ∷ ys) (suc (at - length xs - 1))
 
 -- The tree that a link leads to, with the slot on top taken out, and its two sides.
 pub held_open : {R : Type 0} {m : Memory R} {link : Option ℕ} {t : Tree} (i : ℕ) (left right : Option ℕ) (held : Held m link t) (v : Seen m Left left right i t) → Held m link (node v.o i v.n)
@@ -144,8 +128,8 @@ module _ {R : Type 0} (μ : Measure R) where
   pub none_halved : {m : Memory R} {link : Option ℕ} {t : Tree} (held : Held m link t) (at : ℕ) → t ≡ leaf → Halved μ m t at m leaf leaf
   none_halved {m} {link} {t} held at is = record {
     frame = frame_none m (uses t);
-    front = sym (ap (λ (z : Tree). take at (slots z)) is ∙ take_nil at);
-    back = sym (ap (λ (z : Tree). drop at (slots z)) is ∙ drop_nil at);
+    front = sym (ap (λ (z : Tree). take at (slots z)) is ∙ take-nil {A = ℕ} at);
+    back = sym (ap (λ (z : Tree). drop at (slots z)) is ∙ drop-nil {A = ℕ} at);
     keeps = λ w fair h. (tt, tt);
   }
 

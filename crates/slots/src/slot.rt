@@ -37,7 +37,7 @@ impl Node {
 #[derive(Clone, Copy)]
 pub struct Slot<R> {
     pub node: Node,
-    // The length of the slot's own chunk.
+    // The length of the slot's own chunk, whose bytes are in the store: memory of a fixed size is lent for each.
     pub size: u8,
     // The next free slot, where this one is free.
     pub next: Option<u16>,
