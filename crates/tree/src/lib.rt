@@ -4,6 +4,8 @@
 
 pub mod chunk_tree;
 pub mod lent;
+pub mod refusal;
 
 pub use chunk_tree::ChunkTree;
 pub use lent::Lent;
+pub use refusal::{CopyRefusal, PrepareRefusal, ReplaceRefusal};

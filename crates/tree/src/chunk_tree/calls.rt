@@ -1,5 +1,5 @@
 // What a chunk tree is asked and told.
-ghost use Rattle.std.specs.Prelude.{All, ◌≡◌, ℕ, ◌+◌, ◌-◌, ◌*◌, ◌<◌, ◌≤◌, Bool, true, false, ◌&&◌, List, [], length, take, drop, if◌then◌else◌, None, Decides};
+ghost use Rattle.std.specs.Prelude.{All, ◌≡◌, ℕ, ◌+◌, ◌-◌, ◌*◌, ◌<◌, ◌≤◌, Bool, true, false, ◌&&◌, List, [], length, take, drop, if◌then◌else◌, None, Decides, is_ok, OnOk, OnErr};
 ghost use Rattle.search.specs.Forwards.{stop};
 ghost use Rattle.search.specs.Backwards.{back_stop};
 ghost use Rattle.chunks.specs.Tree.{Balanced, height as height_of};
@@ -10,26 +10,50 @@ ghost use Rattle.slots.specs.Replace.{SameSize};
 ghost use Rattle.slots.specs.Sound.{free_of};
 ghost use Rattle.measure.specs.Measure.{Measure, reading as reading_of};
 ghost use Rattle.tree.specs.Public.{tree_in, chunks_now, usable_of, lent_to, KeptBy, copyable, preparable, replaceable};
+ghost use Rattle.tree.specs.Refused.{copying, preparing, replacing};
 ghost use Rattle.slots.specs.Copy.{pasted};
+ghost use Rattle.questions.specs.Under.{chunks_under, KeptUnder};
 
 use crate::chunk_tree::ChunkTree;
 use crate::lent::Lent;
+use crate::refusal::{CopyRefusal, PrepareRefusal, ReplaceRefusal};
 use chunks::Spot;
 use exchange::prepare::prepare;
 use exchange::replace::exchange;
 use in_place::rewrite::overwrite;
 use meter::Meter;
-use questions::copy::copy_range;
-use questions::question::{size, spot};
-use questions::range::range_reading;
-use questions::same::same_range;
+use questions::span::Span;
+use questions::subtree::Subtree;
 use search::stop::Stop;
 use seek::backward::Backward;
 use seek::forward::Forward;
-use seek::seek_back::seek_backwards;
+use seek::seek_back::seek_back;
 use seek::seek_tree::seek;
+use slots::slot::Extent;
 
-impl<R: Copy> ChunkTree<'_, R> {
+impl<'a, R: Copy> ChunkTree<'a, R> {
+    // The tree that memory holds.
+    pub(crate) fn tree(&self) -> Subtree<'_, 'a, R>
+        ensures chunks { chunks_under result ≡ chunks_now self.now }
+        ensures keeps { (μ : Measure R) → KeptBy self.now μ → KeptUnder result μ }
+    {
+        Subtree::whole(&self.memory, self.root)
+    }
+
+    // How large it is.
+    fn extent(&self) -> Extent
+        ensures height { result.height ≡ height_of (tree_in self.now) }
+        ensures bytes { result.bytes ≡ length (joined (chunks_now self.now)) }
+        ensures chunks { result.chunks ≡ length (chunks_now self.now) }
+        ensures balanced { Balanced (tree_in self.now) }
+        ensures low { height_of (tree_in self.now) ≤ 16 }
+        ensures short { length (joined (chunks_now self.now)) ≤ 262144 }
+        ensures few { length (chunks_now self.now) ≤ usable_of self.now }
+        ensures chunked { All Chunk (chunks_now self.now) }
+    {
+        Subtree::whole(&self.memory, self.root).extent()
+    }
+
     // How many slots may be used: none before `prepare`.
     pub fn usable(&self) -> u16
         ensures is { result ≡ usable_of self.now }
@@ -54,7 +78,7 @@ impl<R: Copy> ChunkTree<'_, R> {
         ensures is { result ≡ length (joined (chunks_now self.now)) }
         ensures few { result ≤ 262144 }
     {
-        size(&self.memory, self.root).bytes
+        self.extent().bytes
     }
 
     // How many chunks there are: no more than slots that may be used. Each has 1 to 64 bytes.
@@ -63,7 +87,7 @@ impl<R: Copy> ChunkTree<'_, R> {
         ensures few { result ≤ usable_of self.now }
         ensures chunked { All Chunk (chunks_now self.now) }
     {
-        size(&self.memory, self.root).chunks
+        self.extent().chunks
     }
 
     // How high the tree is: it is balanced, so at most 16.
@@ -72,7 +96,7 @@ impl<R: Copy> ChunkTree<'_, R> {
         ensures balanced { Balanced (tree_in self.now) }
         ensures low { result ≤ 16 }
     {
-        size(&self.memory, self.root).height
+        self.extent().height
     }
 
     // How many chunks lie before a place, and how many bytes of the next one.
@@ -80,19 +104,27 @@ impl<R: Copy> ChunkTree<'_, R> {
         ensures is { result ≡ spot_in (chunks_now self.now) place }
         ensures few { result.chunk ≤ 4096 }
     {
-        spot(&self.memory, self.root, place)
+        self.tree().spot(place)
     }
 
-    // Copies the bytes from `from` up to `to` to the front of `out`, where that is a range of the text and fits; says whether it did.
-    pub fn copy(&self, from: u32, to: u32, out: &mut [u8]) -> bool
-        ensures answer { result ≡ copyable self.now from to out.old }
-        ensures copied { out.new ≡ (if result then pasted out.old 0 (between from to (joined (chunks_now self.now))) else out.old) }
+    // Copies the bytes from `from` up to `to` to the front of `out`, where that is a range of the text and fits.
+    pub fn copy(&self, from: u32, to: u32, out: &mut [u8]) -> Result<(), CopyRefusal>
+        ensures answer { result ≡ copying self.now from to out.old }
+        ensures done { is_ok result ≡ copyable self.now from to out.old }
+        ensures copied { out.new ≡ (if is_ok result then pasted out.old 0 (between from to (joined (chunks_now self.now))) else out.old) }
     {
-        if from > to || to > self.bytes() || (to - from) as usize > out.len() {
-            return false;
+        if from > to || to > self.bytes() {
+            return Err(CopyRefusal::OutsideText);
         }
-        let _ = copy_range(&self.memory, self.root, from, to, out);
-        true
+        if (to - from) as usize > out.len() {
+            return Err(CopyRefusal::ShortBuffer);
+        }
+        let span = Span {
+            from: from as usize,
+            to: to as usize,
+        };
+        let _ = self.tree().copy(span, out, 0);
+        Ok(())
     }
 
     // Whether the text from `place` on begins with `given`.
@@ -100,26 +132,26 @@ impl<R: Copy> ChunkTree<'_, R> {
         ensures { Decides result ((place ≤ length (joined (chunks_now self.now))) × (between place (place + length given.now) (joined (chunks_now self.now)) ≡ given.now)) }
     {
         let bytes = self.bytes();
-        if place > bytes {
+        if place > bytes || given.len() > (bytes - place) as usize {
             return false;
         }
-        if given.len() > (bytes - place) as usize {
-            return false;
-        }
-        same_range(
-            &self.memory,
-            self.root,
-            place,
-            place + given.len() as u32,
-            given,
-        )
+        let from = place as usize;
+        let span = Span {
+            from,
+            to: from + given.len(),
+        };
+        self.tree().same(span, given)
     }
 
     // The reading of the bytes from `from` up to `to`, joined from the readings that slots keep and the cut ends' own bytes.
     pub fn reading<M: Meter<Reading = R>>(&self, meter: &M, from: u32, to: u32) -> R
         ensures { KeptBy self.now (M.scale meter.now) → result ≡ reading_of (M.scale meter.now) (between from to (joined (chunks_now self.now))) }
     {
-        range_reading(meter, &self.memory, self.root, from, to)
+        let span = Span {
+            from: from as usize,
+            to: to as usize,
+        };
+        self.tree().reading(meter, span)
     }
 
     // Where a search comes to in the text from a place on: as defined, where the readings kept are those it looks into.
@@ -127,7 +159,7 @@ impl<R: Copy> ChunkTree<'_, R> {
         ensures within { result.passed ≤ length (drop place (joined (chunks_now self.now))) }
         ensures finds { KeptBy self.now (S.scale search.now) → result ≡ stop (S.goes search.now) at (drop place (joined (chunks_now self.now))) }
     {
-        seek(search, &self.memory, self.root, place as usize, at)
+        seek(search, self.tree(), place as usize, at)
     }
 
     // The same from a place back; `state` is the forward state in which the text begins.
@@ -141,64 +173,69 @@ impl<R: Copy> ChunkTree<'_, R> {
         ensures within { result.passed ≤ length (take place (joined (chunks_now self.now))) }
         ensures finds { KeptBy self.now (S.scale search.now) → result ≡ back_stop (S.fore search.now) (S.back search.now) state (take place (joined (chunks_now self.now))) at }
     {
-        seek_backwards(search, &self.memory, self.root, state, place as usize, at)
+        seek_back(search, self.tree(), state, place as usize, at)
     }
 
-    // Makes the first `n` slots usable, all of them free, where nothing is usable yet and memory has room for them; says whether it did.
-    pub fn prepare(&mut self, n: u16) -> bool
-        ensures answer { result ≡ preparable self.old n }
-        ensures usable { self.new.memory.usable ≡ (if result then n else self.old.memory.usable) }
+    // Makes the first `n` slots usable, all of them free, where nothing is usable yet and memory has room for them.
+    pub fn prepare(&mut self, n: u16) -> Result<(), PrepareRefusal>
+        ensures answer { result ≡ preparing self.old n }
+        ensures done { is_ok result ≡ preparable self.old n }
+        ensures usable { self.new.memory.usable ≡ (if is_ok result then n else self.old.memory.usable) }
         ensures lent { lent_to self.new ≡ lent_to self.old }
-        ensures chunks { chunks_now self.new ≡ (if result then [] else chunks_now self.old) }
-        ensures free { result ≡ true → free_of self.new.memory ≡ range_with_len 0 n }
-        ensures keeps { result ≡ true → (μ : Measure R) → KeptBy self.new μ }
+        ensures chunks { chunks_now self.new ≡ (if is_ok result then [] else chunks_now self.old) }
+        ensures free { OnOk result (free_of self.new.memory ≡ range_with_len 0 n) }
+        ensures keeps { OnOk result ((μ : Measure R) → KeptBy self.new μ) }
         ensures store { self.new.memory.store.now ≡ self.old.memory.store.now }
         ensures readings { self.new.memory.readings.now ≡ self.old.memory.readings.now }
-        ensures same { result ≡ false → (self.new.memory ≡ self.old.memory) × (self.new.root ≡ self.old.root) }
+        ensures same { OnErr result ((self.new.memory ≡ self.old.memory) × (self.new.root ≡ self.old.root)) }
     {
         let room = n as usize;
-        if self.usable() != 0 || n < 1 || n > 4096 {
-            return false;
+        if self.usable() != 0 {
+            return Err(PrepareRefusal::Prepared);
+        }
+        if n < 1 || n > 4096 {
+            return Err(PrepareRefusal::UnfitNumber);
         }
         if self.memory.slots.len() < room
             || self.memory.readings.len() < room
             || self.memory.store.len() < 64 * room
         {
-            return false;
+            return Err(PrepareRefusal::ShortMemory);
         }
         prepare(&mut self.memory, n);
         self.root = None;
-        true
+        Ok(())
     }
 
     // Puts the chunks that `bytes` are cut into in the place of the chunks from `from` up to `to`, where that is a run
-    // of chunks and there are slots enough; says whether it did.
+    // of chunks and there are slots enough.
     pub fn replace<M: Meter<Reading = R>>(
         &mut self,
         meter: &M,
         from: u16,
         to: u16,
         bytes: &[u8],
-    ) -> bool
-        ensures answer { result ≡ replaceable self.old from to bytes.now }
-        ensures chunks { chunks_now self.new ≡ (if result then replaced from to (cut bytes.now) (chunks_now self.old) else chunks_now self.old) }
+    ) -> Result<(), ReplaceRefusal>
+        ensures answer { result ≡ replacing self.old from to bytes.now }
+        ensures done { is_ok result ≡ replaceable self.old from to bytes.now }
+        ensures chunks { chunks_now self.new ≡ (if is_ok result then replaced from to (cut bytes.now) (chunks_now self.old) else chunks_now self.old) }
         ensures keeps { KeptBy self.old (M.scale meter.now) → KeptBy self.new (M.scale meter.now) }
         ensures size { SameSize self.old.memory self.new.memory }
-        ensures same { result ≡ false → (self.new.memory ≡ self.old.memory) × (self.new.root ≡ self.old.root) }
+        ensures same { OnErr result ((self.new.memory ≡ self.old.memory) × (self.new.root ≡ self.old.root)) }
     {
         let chunks = self.chunks();
         if from > to || to > chunks {
-            return false;
+            return Err(ReplaceRefusal::NoRun);
         }
         let count = bytes.len().div_ceil(64);
         if (chunks - (to - from)) as usize + count > self.usable() as usize {
-            return false;
+            return Err(ReplaceRefusal::NoRoom);
         }
         if count == (to - from) as usize {
             overwrite(meter, &mut self.memory, self.root, from, bytes);
         } else {
             self.root = exchange(meter, &mut self.memory, self.root, from, to, bytes);
         }
-        true
+        Ok(())
     }
 }

@@ -5,7 +5,6 @@ ghost use Rattle.tree.specs.Public.{chunks_now};
 
 use crate::chunk_tree::ChunkTree;
 use chunks::SizedSpot;
-use questions::question::sized_spot;
 
 impl<R: Copy> ChunkTree<'_, R> {
     // How many chunks lie before a place, how many bytes of the next one, and how long that one is.
@@ -13,6 +12,6 @@ impl<R: Copy> ChunkTree<'_, R> {
         ensures is { result ≡ sized_spot_in (chunks_now self.now) place }
         ensures few { result.chunk ≤ 4096 }
     {
-        sized_spot(&self.memory, self.root, place)
+        self.tree().sized_spot(place)
     }
 }
