@@ -27,7 +27,8 @@ impl fmt::Display for Summary {
             closings,
             openings,
         } = *self;
-        write!(f,
+        write!(
+            f,
             "length {length} lines {lines} units {units} state {state} closings {closings} openings {openings}"
         )
     }

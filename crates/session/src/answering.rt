@@ -39,7 +39,7 @@ fn yes_no(is: bool) -> &'static str
     if is { "yes" } else { "no" }
 }
 
-// An answer as a line without its line feed: empty where it was written to the buffer or to the lent reading.
+// An answer as a line without its line feed; empty where it was written to the buffer or to the lent reading.
 #[derive(Clone, Copy)]
 struct AnswerLine(Answer);
 
@@ -50,12 +50,14 @@ impl fmt::Display for AnswerLine {
         match self.0 {
             Answer::Closed => f.write_str("closed"),
             Answer::Pass => f.write_str("pass"),
-            Answer::Due(Change {
-                place,
-                removed,
-                inserted,
-                end,
-            }) => write!(f, "due {place} {removed} {inserted} {end}"),
+            Answer::Due(
+                Change {
+                    place,
+                    removed,
+                    inserted,
+                    end,
+                },
+            ) => write!(f, "due {place} {removed} {inserted} {end}"),
             Answer::Done(records) => write!(f, "done {records}"),
             Answer::RecordRefused(RecordRefusal { index, refusal }) => {
                 let words = RefusalWords(refusal);
@@ -83,7 +85,7 @@ impl fmt::Display for AnswerLine {
     }
 }
 
-// The line without its line feed; empty where the answer was written to the buffer or to the lent reading.
+// That line.
 pub fn answer_text(heap: Global, answer: Answer) -> Result<String, AllocError>
     ensures { IfOk result (λ s. string_bytes s ≡ answer_line answer) }
 {

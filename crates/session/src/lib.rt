@@ -9,9 +9,9 @@ pub mod problem;
 pub mod reading;
 pub mod records;
 pub mod request;
-mod unread;
 #[cfg(test)]
 mod tests;
+mod unread;
 
 pub use answering::answer_text;
 pub use problem::Problem;

@@ -16,7 +16,10 @@ fn session_length(text: &[u8]) -> usize
     ensures some { 0 < result }
     ensures within { result ≤ length text.now }
 {
-    match text.windows(2).position(|pair| matches!(pair, [b'\n', b'$'])) {
+    let line_end = text
+        .windows(2)
+        .position(|pair| matches!(pair, [b'\n', b'$']));
+    match line_end {
         Some(end) => end + 1,
         None => text.len(),
     }
