@@ -4,7 +4,7 @@ ghost use Rattle.std.specs.List.{between};
 ghost use Rattle.measure.specs.Place.{line_ends};
 ghost use Rattle.model.specs.Edit.{middle as middle_of, middle_length, affected, edited_chunks};
 ghost use Rattle.tree.specs.Public.{chunks_now, usable_of, lent_to, KeptBy};
-ghost use Rattle.editing.specs.Content.{text_in, model_in, document_measure};
+ghost use Rattle.editing.specs.Content.{text_in, model_in, scale_of};
 ghost use Rattle.editing.specs.Applied.{Applied};
 ghost use Rattle.model.specs.Calls.{change_refusal, refusal_in};
 ghost use Rattle.model.specs.End.{edit_change};
@@ -62,7 +62,7 @@ fn replace_run<R: Copy, M: Meter<Reading = R>>(
     ensures chunks { chunks_now tree.new ≡ edited_chunks (chunks_now tree.old) from to bytes.now }
     ensures usable { usable_of tree.new ≡ usable_of tree.old }
     ensures lent { lent_to tree.new ≡ lent_to tree.old }
-    ensures keeps { KeptBy tree.old (M.Meter.scale meter.now) → KeptBy tree.new (M.Meter.scale meter.now) }
+    ensures keeps { KeptBy tree.old (M.scale meter.now) → KeptBy tree.new (M.scale meter.now) }
 {
     let mut middle = [0; MOST_MIDDLE];
     let length = fill_middle(tree, run, from, to, bytes, &mut middle);
@@ -86,8 +86,8 @@ pub fn apply_edit<X: Copy, G: Grammar, H: Meter<Reading = X>>(
     ensures decides { refusal_in result ≡ change_refusal (model_in tree.old None) from to bytes.now }
     ensures applied { IfOk result (λ e. Applied tree.old from to bytes.now tree.new e.change) }
     ensures lost { IfOk result (λ e. e.lost ≡ line_ends (between from to (text_in tree.old))) }
-    ensures ends { IfOk result (λ e. KeptBy tree.old (document_measure (G.Grammar.meaning meter.now.first.grammar) (H.Meter.scale meter.now.second.second)) → e.change ≡ edit_change (G.Grammar.meaning meter.now.first.grammar) (text_in tree.old) from to bytes.now) }
-    ensures keeps { KeptBy tree.old (document_measure (G.Grammar.meaning meter.now.first.grammar) (H.Meter.scale meter.now.second.second)) → KeptBy tree.new (document_measure (G.Grammar.meaning meter.now.first.grammar) (H.Meter.scale meter.now.second.second)) }
+    ensures ends { IfOk result (λ e. KeptBy tree.old (scale_of G.meaning H.scale meter.now) → e.change ≡ edit_change (G.meaning meter.now.first.grammar) (text_in tree.old) from to bytes.now) }
+    ensures keeps { let μ = scale_of G.meaning H.scale meter.now in KeptBy tree.old μ → KeptBy tree.new μ }
     ensures same { OnErr result (tree.new ≡ tree.old) }
 {
     let run = plan(tree, from, to, bytes)?;

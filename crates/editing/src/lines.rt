@@ -11,13 +11,7 @@ use tree::ChunkTree;
 pub fn line_ends_of(bytes: &[u8]) -> usize
     ensures { result ≡ line_ends bytes.now }
 {
-    let mut count = 0;
-    for byte in bytes {
-        if ends_line(*byte) {
-            count += 1;
-        }
-    }
-    count
+    bytes.iter().filter(|byte| ends_line(**byte)).count()
 }
 
 // How many of the bytes from `from` up to `to`, or to the end of the text, end a line. They are copied in blocks of 64.
@@ -26,13 +20,11 @@ pub fn line_ends_between<R: Copy>(tree: &ChunkTree<R>, from: u32, to: u32) -> u3
 {
     let end = to.min(tree.bytes());
     let mut block = [0u8; 64];
-    let mut at = from;
     let mut count = 0;
-    while at < end {
+    for at in (from..end).step_by(64) {
         let next = (at + 64).min(end);
         let _ = tree.copy(at, next, &mut block);
         count += line_ends_of(&block[..(next - at) as usize]) as u32;
-        at = next;
     }
     count
 }

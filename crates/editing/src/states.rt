@@ -1,9 +1,10 @@
 // The states of the text's walk, sought in the tree: before a place, and where two walks meet.
+// Here and in screen.rt the tree and its meter stay two parameters: in a struct each clause would read `self.now.tree.now` for `tree.now`.
 ghost use Rattle.std.specs.Prelude.{◌≡◌, ◌≤◌, length, drop};
 ghost use Rattle.automaton.specs.Walk.{state_before};
 ghost use Rattle.model.specs.End.{apart};
 ghost use Rattle.tree.specs.Public.{KeptBy};
-ghost use Rattle.editing.specs.Content.{text_in, document_measure};
+ghost use Rattle.editing.specs.Content.{text_in, scale_of};
 
 use grammar::Grammar;
 use locate::two_states::TwoStates;
@@ -19,12 +20,10 @@ pub fn state_before<X: Copy, G: Grammar, H: Meter<Reading = X>>(
     meter: &DocumentMeter<G, H>,
     place: u32,
 ) -> u8
-    ensures { KeptBy tree.now (document_measure (G.Grammar.meaning meter.now.first.grammar) (H.Meter.scale meter.now.second.second)) → result ≡ state_before (G.Grammar.meaning meter.now.first.grammar) (text_in tree.now) place }
+    ensures { KeptBy tree.now (scale_of G.meaning H.scale meter.now) → result ≡ state_before (G.meaning meter.now.first.grammar) (text_in tree.now) place }
 {
     let search = On {
-        side: First {
-            other: &meter.second,
-        },
+        side: First(&meter.second),
         search: StateBefore {
             grammar: &meter.first.grammar,
         },
@@ -44,12 +43,10 @@ pub fn apart_from<X: Copy, G: Grammar, H: Meter<Reading = X>>(
     states: TwoStates,
 ) -> usize
     ensures within { result ≤ length (drop place (text_in tree.now)) }
-    ensures meets { KeptBy tree.now (document_measure (G.Grammar.meaning meter.now.first.grammar) (H.Meter.scale meter.now.second.second)) → result ≡ apart (G.Grammar.meaning meter.now.first.grammar) states.old states.new (drop place (text_in tree.now)) }
+    ensures meets { KeptBy tree.now (scale_of G.meaning H.scale meter.now) → result ≡ apart (G.meaning meter.now.first.grammar) states.old states.new (drop place (text_in tree.now)) }
 {
     let search = On {
-        side: First {
-            other: &meter.second,
-        },
+        side: First(&meter.second),
         search: Meeting {
             grammar: &meter.first.grammar,
         },

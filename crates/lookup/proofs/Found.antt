@@ -1,6 +1,6 @@
 -- What a search for a partner that has ended tells.
-use Rattle.std.proofs.Common.{◌≡◌, ℕ, ◌+◌, ◌-◌, ◌≤◌, true, false, List, length, take, drop, Some, None, sym, ap, ◌∙◌, arith}
-use Rattle.std.proofs.lemmas.Bool.{cond-true, cond-false}
+use Rattle.std.proofs.Common.{◌≡◌, ℕ, ◌+◌, ◌≤◌, Bool, cond, List, length, take, drop, Some, None, Option, IfSome, ap, ◌∙◌, arith}
+use Rattle.std.specs.Option.{is_some}
 use Rattle.automaton.specs.Automaton.{Automaton}
 use Rattle.automaton.specs.Walk.{state_before}
 use Rattle.automaton.specs.declared.role.BracketKind.{BracketKind}
@@ -16,23 +16,15 @@ use Rattle.locate.specs.ComesToPartner.{stopped_before, stopped_behind}
 use Rattle.locate.specs.declared.nested.Nested.{Nested}
 use Rattle.locate.proofs.Partners.{ahead_comes_to_partner, behind_comes_to_partner}
 
+-- An answer that is there where a search has stopped, and is then this.
+pub then_is : (r : Option ℕ) (stopped : Bool) (n : ℕ) → is_some r ≡ stopped → IfSome r (λ x. x ≡ n) → r ≡ cond stopped (Some n) None
+then_is None stopped n e h = ap (λ b. cond b (Some n) None) e
+then_is (Some x) stopped n e h = ap Some h ∙ ap (λ b. cond b (Some n) None) e
+
 module _ (a : Automaton) (text : List ℕ) (p : ℕ) (kind : BracketKind) (short : length text ≤ longest) where
-  module _ (is : role_at a text p ≡ Opening kind) (state : ℕ) (right : state ≡ state_before a text (p + 1)) (s : Stop Nested) (found : s ≡ stop (ahead_on a) (nested state 1) (drop (p + 1) text)) where
-    ahead : stopped_before (p + 1) s ≡ partner_ahead a text p
-    ahead = ap (stopped_before (p + 1)) (found ∙ ap (λ z. stop (ahead_on a) (nested z 1) (drop (p + 1) text)) right) ∙ ahead_comes_to_partner a text p kind (omega arith) is
+  pub ahead : role_at a text p ≡ Opening kind → (state : ℕ) → state ≡ state_before a text (p + 1) → (s : Stop Nested) → s ≡ stop (ahead_on a) (nested state 1) (drop (p + 1) text) → stopped_before (p + 1) s ≡ partner_ahead a text p
+  ahead is state right s found =
+      ap (stopped_before (p + 1)) (found ∙ ap (λ z. stop (ahead_on a) (nested z 1) (drop (p + 1) text)) right) ∙ ahead_comes_to_partner a text p kind (omega arith) is
 
-    pub stopped_ahead : s.stopped ≡ true → Some (p + 1 + s.passed) ≡ partner_ahead a text p
-    stopped_ahead e = sym (cond-true s.stopped (Some (p + 1 + s.passed)) None e) ∙ ahead
-
-    pub missed_ahead : s.stopped ≡ false → None ≡ partner_ahead a text p
-    missed_ahead e = sym (cond-false s.stopped (Some (p + 1 + s.passed)) None e) ∙ ahead
-
-  module _ (is : role_at a text p ≡ Closing kind) (s : Stop ℕ) (found : s ≡ back_stop (trace_on a) (behind_on a) (Some (traced 0 0)) (take p text) 1) where
-    behind : stopped_behind p s ≡ partner_behind a text p
-    behind = ap (stopped_behind p) found ∙ behind_comes_to_partner a text p kind short is
-
-    pub stopped_below : s.stopped ≡ true → Some ((p - s.passed) - 1) ≡ partner_behind a text p
-    stopped_below e = sym (cond-true s.stopped (Some ((p - s.passed) - 1)) None e) ∙ behind
-
-    pub missed_below : s.stopped ≡ false → None ≡ partner_behind a text p
-    missed_below e = sym (cond-false s.stopped (Some ((p - s.passed) - 1)) None e) ∙ behind
+  pub behind : role_at a text p ≡ Closing kind → (s : Stop ℕ) → s ≡ back_stop (trace_on a) (behind_on a) (Some (traced 0 0)) (take p text) 1 → stopped_behind p s ≡ partner_behind a text p
+  behind is s found = ap (stopped_behind p) found ∙ behind_comes_to_partner a text p kind short is

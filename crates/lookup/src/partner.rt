@@ -1,4 +1,5 @@
 // The partner of a bracket, by the readings of the document's meter.
+// Here and in position.rt the tree and its meter stay two parameters: in a struct each clause would read `self.now.tree.now` for `tree.now`.
 ghost use Rattle.std.specs.Prelude.{◌≡◌, ℕ, ◌<◌, ◌≤◌, length, take, drop, IfOk, if◌then◌else◌, Some, None, nat_lt, slice_index};
 ghost use Rattle.automaton.specs.declared.role.BracketKind.{BracketKind};
 ghost use Rattle.automaton.specs.declared.role.Role.TheVariants.{Opening, Closing};
@@ -10,7 +11,7 @@ ghost use Rattle.locate.specs.PartnerAhead.{nested, ahead_on};
 ghost use Rattle.locate.specs.PartnerBehind.{traced, trace_on, behind_on};
 ghost use Rattle.model.specs.Calls.{refusal_in, partner_refusal};
 ghost use Rattle.tree.specs.Public.{KeptBy};
-ghost use Rattle.editing.specs.Content.{text_in, model_in, document_measure};
+ghost use Rattle.editing.specs.Content.{text_in, model_in, scale_of};
 ghost use Rattle.lookup.specs.Partner.{RefusedAnyway};
 
 use automaton::role::{BracketKind, Role};
@@ -19,7 +20,7 @@ use editing::{Readings, state_before};
 use grammar::Grammar;
 use locate::nested::Nested;
 use locate::traced::Traced;
-use locate::{OnFirst, PartnerAhead, PartnerBehind};
+use locate::{First, On, PartnerAhead, PartnerBehind};
 use meter::Meter;
 use model::refusal::Refusal;
 use search::stop::Stop;
@@ -44,15 +45,13 @@ fn role_at<X: Copy, G: Grammar, H: Meter<Reading = X>>(
     meter: &DocumentMeter<G, H>,
     place: u32,
 ) -> Role
-    ensures { KeptBy tree.now (document_measure (G.Grammar.meaning meter.now.first.grammar) (H.Meter.scale meter.now.second.second)) → result ≡ role_at (G.Grammar.meaning meter.now.first.grammar) (text_in tree.now) place }
+    ensures { KeptBy tree.now (scale_of G.meaning H.scale meter.now) → result ≡ role_at (G.meaning meter.now.first.grammar) (text_in tree.now) place }
 {
-    match byte_at(tree, place) {
-        None => Role::Plain,
-        Some(byte) => {
-            let state = state_before(tree, meter, place);
-            meter.first.grammar.role(state, byte)
-        }
-    }
+    let Some(byte) = byte_at(tree, place) else {
+        return Role::Plain;
+    };
+    let state = state_before(tree, meter, place);
+    meter.first.grammar.role(state, byte)
 }
 
 // The search from a place on, with one opening unmatched before it.
@@ -63,13 +62,13 @@ fn search_ahead<X: Copy, G: Grammar, H: Meter<Reading = X>>(
     state: u8,
 ) -> Stop<Nested>
     ensures within { result.passed ≤ length (drop place (text_in tree.now)) }
-    ensures finds { KeptBy tree.now (document_measure (G.Grammar.meaning meter.now.first.grammar) (H.Meter.scale meter.now.second.second)) → result ≡ stop (ahead_on (G.Grammar.meaning meter.now.first.grammar)) (nested state 1) (drop place (text_in tree.now)) }
+    ensures finds { KeptBy tree.now (scale_of G.meaning H.scale meter.now) → result ≡ stop (ahead_on (G.meaning meter.now.first.grammar)) (nested state 1) (drop place (text_in tree.now)) }
 {
-    let search = OnFirst {
+    let search = On {
+        side: First(&meter.second),
         search: PartnerAhead {
             grammar: &meter.first.grammar,
         },
-        other: &meter.second,
     };
     tree.seek(&search, place, Nested { state, depth: 1 })
 }
@@ -81,13 +80,13 @@ fn search_behind<X: Copy, G: Grammar, H: Meter<Reading = X>>(
     place: u32,
 ) -> Stop<u32>
     ensures within { result.passed ≤ length (take place (text_in tree.now)) }
-    ensures finds { KeptBy tree.now (document_measure (G.Grammar.meaning meter.now.first.grammar) (H.Meter.scale meter.now.second.second)) → result ≡ back_stop (trace_on (G.Grammar.meaning meter.now.first.grammar)) (behind_on (G.Grammar.meaning meter.now.first.grammar)) (Some (traced 0 0)) (take place (text_in tree.now)) 1 }
+    ensures finds { KeptBy tree.now (scale_of G.meaning H.scale meter.now) → result ≡ back_stop (trace_on (G.meaning meter.now.first.grammar)) (behind_on (G.meaning meter.now.first.grammar)) (Some (traced 0 0)) (take place (text_in tree.now)) 1 }
 {
-    let search = OnFirst {
+    let search = On {
+        side: First(&meter.second),
         search: PartnerBehind {
             grammar: &meter.first.grammar,
         },
-        other: &meter.second,
     };
     let start = Some(Traced { read: 0, state: 0 });
     tree.seek_back(&search, start, place, 1)
@@ -101,16 +100,12 @@ fn partner_ahead<X: Copy, G: Grammar, H: Meter<Reading = X>>(
 ) -> Option<u32>
     requires within { place < length (text_in tree.now) }
     requires short { length (text_in tree.now) ≤ longest }
-    ensures { KeptBy tree.now (document_measure (G.Grammar.meaning meter.now.first.grammar) (H.Meter.scale meter.now.second.second)) → (kind : BracketKind) → role_at (G.Grammar.meaning meter.now.first.grammar) (text_in tree.now) place ≡ Opening kind → result ≡ partner_ahead (G.Grammar.meaning meter.now.first.grammar) (text_in tree.now) place }
+    ensures { KeptBy tree.now (scale_of G.meaning H.scale meter.now) → (kind : BracketKind) → role_at (G.meaning meter.now.first.grammar) (text_in tree.now) place ≡ Opening kind → result ≡ partner_ahead (G.meaning meter.now.first.grammar) (text_in tree.now) place }
 {
     let behind = place + 1;
     let state = state_before(tree, meter, behind);
     let found = search_ahead(tree, meter, behind, state);
-    if found.stopped {
-        Some(behind + found.passed as u32)
-    } else {
-        None
-    }
+    found.stopped.then(|| behind + found.passed as u32)
 }
 
 // The partner of a closing: where the search back from before it stops.
@@ -120,14 +115,12 @@ fn partner_behind<X: Copy, G: Grammar, H: Meter<Reading = X>>(
     place: u32,
 ) -> Option<u32>
     requires short { length (text_in tree.now) ≤ longest }
-    ensures { KeptBy tree.now (document_measure (G.Grammar.meaning meter.now.first.grammar) (H.Meter.scale meter.now.second.second)) → (kind : BracketKind) → role_at (G.Grammar.meaning meter.now.first.grammar) (text_in tree.now) place ≡ Closing kind → result ≡ partner_behind (G.Grammar.meaning meter.now.first.grammar) (text_in tree.now) place }
+    ensures { KeptBy tree.now (scale_of G.meaning H.scale meter.now) → (kind : BracketKind) → role_at (G.meaning meter.now.first.grammar) (text_in tree.now) place ≡ Closing kind → result ≡ partner_behind (G.meaning meter.now.first.grammar) (text_in tree.now) place }
 {
     let found = search_behind(tree, meter, place);
-    if found.stopped {
-        Some((place - found.passed as u32).saturating_sub(1))
-    } else {
-        None
-    }
+    found
+        .stopped
+        .then(|| (place - found.passed as u32).saturating_sub(1))
 }
 
 // The kind of a bracket, where there is one.
@@ -147,7 +140,7 @@ fn told<X: Copy, G: Grammar, H: Meter<Reading = X>>(
     role: Role,
     found: Option<u32>,
 ) -> Option<Partner>
-    ensures { KeptBy tree.now (document_measure (G.Grammar.meaning meter.now.first.grammar) (H.Meter.scale meter.now.second.second)) → (place : ℕ) → role_at (G.Grammar.meaning meter.now.first.grammar) (text_in tree.now) place ≡ role → result ≡ told (G.Grammar.meaning meter.now.first.grammar) (text_in tree.now) place found }
+    ensures { KeptBy tree.now (scale_of G.meaning H.scale meter.now) → (place : ℕ) → role_at (G.meaning meter.now.first.grammar) (text_in tree.now) place ≡ role → result ≡ told (G.meaning meter.now.first.grammar) (text_in tree.now) place found }
 {
     let place = found?;
     let other = role_at(tree, meter, place);
@@ -163,9 +156,9 @@ pub fn partner_of<X: Copy, G: Grammar, H: Meter<Reading = X>>(
     meter: &DocumentMeter<G, H>,
     place: u32,
 ) -> Result<Option<Partner>, Refusal>
-    ensures decides { KeptBy tree.now (document_measure (G.Grammar.meaning meter.now.first.grammar) (H.Meter.scale meter.now.second.second)) → refusal_in result ≡ partner_refusal (G.Grammar.meaning meter.now.first.grammar) (model_in tree.now None) place }
+    ensures decides { KeptBy tree.now (scale_of G.meaning H.scale meter.now) → refusal_in result ≡ partner_refusal (G.meaning meter.now.first.grammar) (model_in tree.now None) place }
     ensures anyway { RefusedAnyway (text_in tree.now) place result }
-    ensures finds { KeptBy tree.now (document_measure (G.Grammar.meaning meter.now.first.grammar) (H.Meter.scale meter.now.second.second)) → IfOk result (λ p. p ≡ partner (G.Grammar.meaning meter.now.first.grammar) (text_in tree.now) place) }
+    ensures finds { KeptBy tree.now (scale_of G.meaning H.scale meter.now) → IfOk result (λ p. p ≡ partner (G.meaning meter.now.first.grammar) (text_in tree.now) place) }
 {
     if place >= tree.bytes() {
         return Err(Refusal::OutsidePlace(place as u64));

@@ -4,13 +4,13 @@ ghost use Rattle.measure.specs.Place.{line_ends};
 ghost use Rattle.positions.specs.Position.{position, spot};
 ghost use Rattle.model.specs.Calls.{refusal_in, place_refusal};
 ghost use Rattle.tree.specs.Public.{KeptBy};
-ghost use Rattle.editing.specs.Content.{text_in, model_in, document_measure};
+ghost use Rattle.editing.specs.Content.{text_in, model_in, scale_of};
 
 use editing::Readings;
 use grammar::Grammar;
 use locate::lined::Lined;
 use locate::placed::Placed;
-use locate::{AtPlace, InLine, OnFirst, OnSecond};
+use locate::{AtPlace, First, InLine, On, Second};
 use meter::Meter;
 use model::Refusal;
 use tree::ChunkTree;
@@ -23,17 +23,17 @@ pub fn place_of<X: Copy, G: Grammar, H: Meter<Reading = X>>(
     place: u32,
 ) -> Result<(u32, u32), Refusal>
     ensures decides { refusal_in result ≡ place_refusal (model_in tree.now None) place }
-    ensures finds { IfOk result (λ r. KeptBy tree.now (document_measure (G.Grammar.meaning meter.now.first.grammar) (H.Meter.scale meter.now.second.second)) → r ≡ position (text_in tree.now) place) }
+    ensures finds { IfOk result (λ r. KeptBy tree.now (scale_of G.meaning H.scale meter.now) → r ≡ position (text_in tree.now) place) }
 {
     if place > tree.bytes() {
         return Err(Refusal::OutsidePlace(place as u64));
     }
-    let search = OnSecond {
-        search: OnFirst {
+    let search = On {
+        side: Second(&meter.first),
+        search: On {
+            side: First(&meter.second.second),
             search: AtPlace,
-            other: &meter.second.second,
         },
-        other: &meter.first,
     };
     let start = Placed {
         left: place as usize,
@@ -52,14 +52,14 @@ pub fn spot_at<X: Copy, G: Grammar, H: Meter<Reading = X>>(
     column: u32,
 ) -> u32
     ensures within { result ≤ length (text_in tree.now) }
-    ensures finds { KeptBy tree.now (document_measure (G.Grammar.meaning meter.now.first.grammar) (H.Meter.scale meter.now.second.second)) → line ≤ line_ends (text_in tree.now) → result ≡ spot (text_in tree.now) line column }
+    ensures finds { KeptBy tree.now (scale_of G.meaning H.scale meter.now) → line ≤ line_ends (text_in tree.now) → result ≡ spot (text_in tree.now) line column }
 {
-    let search = OnSecond {
-        search: OnFirst {
+    let search = On {
+        side: Second(&meter.first),
+        search: On {
+            side: First(&meter.second.second),
             search: InLine { column },
-            other: &meter.second.second,
         },
-        other: &meter.first,
     };
     let start = Lined {
         lines: line,

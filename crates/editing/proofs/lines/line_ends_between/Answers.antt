@@ -1,6 +1,8 @@
-use Rattle.std.proofs.Common.{◌-◌, ◌≤◌, length, ◌∙◌, arith}
+use Rattle.std.proofs.Common.{◌≡◌, ◌+◌, ◌-◌, length, min, ap, ◌∙◌, arith}
+use Rattle.std.specs.List.{between}
+use Rattle.measure.specs.Place.{line_ends}
 use Rattle.editing.specs.Content.{text_in}
-use Rattle.editing.proofs.LinesBetween.{ends_few, block_more, between_few, block_front, to_end}
+use Rattle.editing.proofs.LinesBetween.{ends_few, between_few, block_counted, to_end}
 use Rattle.editing.proofs.lines.line_ends_between.Goals as goal
 
 pub overflow_cast-count : goal.overflow_cast-count
@@ -8,25 +10,35 @@ overflow_cast-count g c = omega (arith, c.line_ends_of.ensures, ends_few c.copy.
 
 pub overflow_add-count : goal.overflow_add-count
 overflow_add-count g c =
-    omega (arith, c.line_ends_of.ensures, ends_few c.copy.new.out (c.min-next.result - c.loop-at.at), c.loop-at.invariant.counted, between_few (text_in c.args.tree.now) c.args.from c.loop-at.at, c.bytes.ensures.is)
+    omega (arith, c.line_ends_of.ensures, ends_few c.copy.new.out (c.min-next.result - c.loop-at.at), c.loop-at.invariant.counted, between_few (text_in c.args.tree.now) c.args.from (min c.loop-at.at c.min-end.result), c.bytes.ensures.is)
 
 pub loop-at-preserved : goal.loop-at-preserved
 loop-at-preserved g c =
     let text = text_in c.args.tree.now in
     let at = c.loop-at.at in
+    let end = c.min-end.result in
     let next = c.min-next.result in
-    let further : at ≤ next = omega arith in
-    let inside : next ≤ length text = omega (arith, c.bytes.ensures.is, c.min-end.ensures, c.min-next.ensures) in
-    let block = block_front c.args.tree.now at next c.loop-at.block c.copy.new.out c.copy.result c.copy.ensures.answer c.copy.ensures.copied further inside (omega (arith, c.min-next.array_long, c.min-next.ensures)) in
-    let more = block_more text c.args.from at next c.loop-at.invariant.forward further inside in
-    record {
-      forward = omega (arith, c.loop-at.invariant.forward);
-      short = omega (arith, c.min-next.ensures);
-      counted = omega (arith, c.loop-at.invariant.counted, c.line_ends_of.ensures, block, more);
-    }
+    let before : min at end ≡ at = omega arith in
+    let behind : next ≡ min (at + 64) end = omega (arith, c.min-next.ensures) in
+    let more = block_counted c.args.tree.now c.args.from at next c.loop-at.block c.copy.new.out c.copy.result c.loop-at.count c.line_ends_of.result c.copy.ensures.answer c.copy.ensures.copied c.loop-at.invariant.forward (omega arith)
+    (omega (arith, c.bytes.ensures.is, c.min-end.ensures)) (omega (arith, c.min-next.array_long)) (c.loop-at.invariant.counted ∙ ap (λ n. line_ends (between c.args.from n text)) before) c.line_ends_of.ensures in
+    record { forward = omega (arith, c.loop-at.invariant.forward); counted = more ∙ ap (λ n. line_ends (between c.args.from n text)) behind }
+
+-- Behind the last block, and where there is none.
+pub returns-2 : goal.returns-2
+returns-2 g c =
+    let text = text_in c.args.tree.now in
+    let at = c.loop-at.at in
+    let end = c.min-end.result in
+    let next = c.min-next.result in
+    let before : min at end ≡ at = omega arith in
+    let behind : next ≡ min c.args.to (length text) = omega (arith, c.min-next.ensures, c.min-end.ensures, c.bytes.ensures.is) in
+    let more = block_counted c.args.tree.now c.args.from at next c.loop-at.block c.copy.new.out c.copy.result c.loop-at.count c.line_ends_of.result c.copy.ensures.answer c.copy.ensures.copied c.loop-at.invariant.forward (omega arith)
+    (omega (arith, c.bytes.ensures.is, c.min-end.ensures)) (omega (arith, c.min-next.array_long)) (c.loop-at.invariant.counted ∙ ap (λ n. line_ends (between c.args.from n text)) before) c.line_ends_of.ensures in
+    more ∙ ap (λ n. line_ends (between c.args.from n text)) behind ∙ to_end text c.args.from c.args.to
 
 pub returns : goal.returns
 returns g c =
-    let inv = c.loop-at.invariant in
     let text = text_in c.args.tree.now in
-    inv.counted ∙ to_end text c.args.from c.loop-at.at c.args.to inv.forward (omega (arith, inv.short, c.min-end.ensures, c.bytes.ensures.is)) (omega (arith, c.loop-at-test.false, c.min-end.ensures, c.bytes.ensures.is))
+    let end : min c.loop-at.at c.min-end.result ≡ min c.args.to (length text) = omega (arith, c.loop-at-test.false, c.min-end.ensures, c.bytes.ensures.is) in
+    c.loop-at.invariant.counted ∙ ap (λ n. line_ends (between c.args.from n text)) end ∙ to_end text c.args.from c.args.to

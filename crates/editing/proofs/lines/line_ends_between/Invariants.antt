@@ -1,4 +1,4 @@
-use Rattle.std.proofs.Common.{◌≡◌, ◌-◌, ◌≤◌, max}
+use Rattle.std.proofs.Common.{◌≡◌, ◌-◌, ◌≤◌, min}
 use Rattle.std.specs.List.{between}
 use Rattle.measure.specs.Place.{line_ends}
 use Rattle.editing.specs.Content.{text_in}
@@ -8,8 +8,7 @@ use Rattle.editing.proofs.lines.line_ends_between.Given as goal
 abbrev pub invariant-loop-at : goal.invariant-loop-at
 invariant-loop-at g l = record {
   forward : l.from ≤ l.at;
-  short : l.at ≤ max l.from l.end;
-  counted : l.count ≡ line_ends (between l.from l.at (text_in l.tree));
+  counted : l.count ≡ line_ends (between l.from (min l.at l.end) (text_in l.tree));
 }
 
 abbrev pub decreases-loop-at : goal.decreases-loop-at
