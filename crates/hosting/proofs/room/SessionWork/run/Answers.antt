@@ -15,7 +15,7 @@ new_models {slots} {slots'} {store} {store'} {readings} {readings'} p q r =
 pub returns : goal.returns
 returns g c =
     let o = c.args.self.now.options.now in
-    let a = g.G.Grammar.meaning c.args.grammar.now in
+    let a = g.G.Grammar.meaning c.document_meter-meter.result.first.grammar in
     let μ = document_measure a blank_measure in
     let document = c.new-document.result in
     let slots : length c.deref_mut.result.now ≡ slots_lent o = c.deref_mut.ensures.len ∙ c.in_ok-slots.ensures.len ∙ c.slots.ensures.is in
@@ -29,7 +29,7 @@ returns g c =
     let kept = kept_none document.tree (ap (λ (m : Model). m.usable) made) μ in (
       refl,
       refl,
-      IfOk-weaker c.converse.result _ (Hosted o a _ _ _) (λ readable so. record {
+      rw (← c.document_meter-meter.ensures.grammar) (IfOk-weaker c.converse.result _ (Hosted o a _ _ _) (λ readable so. record {
         first = record { document = document; screen = c.deref_mut-4.result.now; buffer = c.deref_mut-5.result.now; reading = _ };
         last = _;
         is_new = record { not_opened = ap (λ (m : Model). m.usable) made; no_due = ap (λ (m : Model). m.due) made };
@@ -38,5 +38,5 @@ returns g c =
         buffer_is = buffer;
         reading_is = refl;
         conversation = so;
-      }) (c.converse.ensures.conversed kept),
+      }) (c.converse.ensures.conversed kept)),
     )
