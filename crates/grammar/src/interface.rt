@@ -6,6 +6,7 @@ ghost use Rattle.automaton.specs.Bracket.{role as role_of};
 use crate::class;
 use automaton::role::{BracketKind, Role};
 
+// States are numbers below the count, since each grammar has its own and a reading keeps an entry for each number.
 pub trait Grammar {
     // The four answers as values, and the proof of their laws.
     ghost meaning: { Self → Automaton };

@@ -1,5 +1,5 @@
 // Quoted: the string layer, in which a string runs from quote to quote or to the end of the line.
-// It is not called String, since that is the prelude's own type.
+// It is not called String, the prelude's own type, and is no twin of Comment, which knows neither an end byte nor an escape.
 ghost use Rattle.std.specs.Prelude.{◌≡◌};
 ghost use Rattle.automaton.specs.Quoted.{quoted, quoted_state};
 ghost use Rattle.automaton.specs.Layer.{state_among};

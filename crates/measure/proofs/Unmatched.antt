@@ -106,11 +106,6 @@ module _ (a : Automaton) (lawful : Lawful a) where
       let more = ap (λ t. closings_in a t xs) (lawful.outside_stays s b h) ∙ outside_closings s xs h in
       omega arith
 
-  -- A walk that begins in a state of the grammar ends in one.
-  pub walk_below : (s : ℕ) (xs : List ℕ) → s < a.count → walk a s xs < a.count
-  walk_below s [] h = h
-  walk_below s (b ∷ xs) h = walk_below (a.step s b) xs (lawful.step_below s b h)
-
 -- One byte more: a closing takes an opening that is left, or is itself left; an opening is left.
 module _ (a : Automaton) (s : ℕ) (xs : List ℕ) (i : ℕ) (within : i < length xs) where
   pub closings_more : unmatched_closings a s (take (i + 1) xs) ≡ unmatched_closings a s (take i xs) + (closes (role a (walk a s (take i xs)) (get_or xs i 0)) - unmatched_openings a s (take i xs))

@@ -6,6 +6,7 @@ use Rattle.automaton.specs.Automaton.{Automaton, Lawful as LawfulGrammar}
 use Rattle.automaton.specs.Bracket.{role}
 use Rattle.automaton.specs.Walk.{walk}
 use Rattle.automaton.proofs.Walk.{walk_append}
+use Rattle.automaton.proofs.LawsHold.{walk_stays_below}
 use Rattle.measure.specs.Measure.{reading, Lawful}
 use Rattle.measure.specs.Bounded.{longest, capped}
 use Rattle.measure.specs.Unmatched.{unmatched_closings, unmatched_openings}
@@ -15,7 +16,7 @@ use Rattle.measure.specs.declared.walk_reading.Passage.{Passage}
 use Rattle.measure.proofs.Measure.{reading_whole, lawful_whole}
 use Rattle.measure.proofs.Bounded.{bounded_within, bounded_over, join_said}
 use Rattle.measure.proofs.Rows.{length_rows, get_d_rows, same_rows}
-use Rattle.measure.proofs.Unmatched.{one_role, unmatched_some, unmatched_few, unmatched_closings_append, unmatched_openings_append, unmatched_said, outside_walk, outside_openings, outside_closings, walk_below}
+use Rattle.measure.proofs.Unmatched.{one_role, unmatched_some, unmatched_few, unmatched_closings_append, unmatched_openings_append, unmatched_said, outside_walk, outside_openings, outside_closings}
 
 abbrev pub entry_of : ℕ → ℕ → ℕ → Entry
 entry_of u c o = record { end = u; closings = c; openings = o }
@@ -79,7 +80,7 @@ module _ (a : Automaton) where
     -- The state behind a walk that begins below 64 lies there too.
     ends_under : (s : ℕ) (xs : List ℕ) → s < 64 → walk a s xs < 64
     ends_under s xs h =
-        ⊎_elim (λ k. omega (arith, walk_below a lawful s xs k, lawful.few_states)) (λ k. let e = outside_walk a lawful s xs k in omega arith)
+        ⊎_elim (λ k. omega (arith, walk_stays_below a lawful s xs k, lawful.few_states)) (λ k. let e = outside_walk a lawful s xs k in omega arith)
         (cases_lt s a.count)
 
     join_rows : (xs ys : List ℕ) → length xs + length ys ≤ longest → (s : ℕ) → s < 64 → through a.count (passage a xs).entries (passage a ys).entries s ≡ entry a s (xs ++ ys)

@@ -21,6 +21,7 @@ fn still_rows() -> [Entry; 64]
     ensures { result ≡ rows still_in }
 {
     let mut entries = [Entry::still(0); 64];
+    // `array::from_fn` counts in usize too, would cast each number to a state, and is no shorter.
     for s in 0..64 {
         entries[s as usize] = Entry::still(s);
     }
@@ -57,23 +58,17 @@ impl<G: Grammar> Walk<G> {
         requires { length bytes.now ≤ longest }
         ensures { result ≡ entry (G.Grammar.meaning self.now.grammar) state bytes.now }
     {
-        let mut now_in = state;
-        let mut closings = 0;
-        let mut openings = 0;
+        let mut walked = Entry::still(state);
         for byte in bytes {
-            match self.grammar.role(now_in, *byte) {
+            match self.grammar.role(walked.end, *byte) {
                 Role::Plain => {}
-                Role::Opening(_) => openings += 1,
-                Role::Closing(_) if openings > 0 => openings -= 1,
-                Role::Closing(_) => closings += 1,
+                Role::Opening(_) => walked.openings += 1,
+                Role::Closing(_) if walked.openings > 0 => walked.openings -= 1,
+                Role::Closing(_) => walked.closings += 1,
             }
-            now_in = self.grammar.step(now_in, *byte);
+            walked.end = self.grammar.step(walked.end, *byte);
         }
-        Entry {
-            end: now_in,
-            closings,
-            openings,
-        }
+        walked
     }
 
     // A walk through the bytes from every state; only those of the grammar move.

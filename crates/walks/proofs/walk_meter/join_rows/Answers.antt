@@ -1,8 +1,8 @@
-use Rattle.std.proofs.Common.{◌≡◌, ◌<◌, ◌++◌, ltb, length, take, drop, get_or, set, min, sym, ap, ◌∙◌, arith}
+use Rattle.std.proofs.Common.{◌≡◌, ◌<◌, ◌++◌, ltb, length, drop, get_or, set, sym, ap, ◌∙◌, arith}
 use Rattle.std.proofs.lemmas.Bool.{cond-false, le-ltb}
 use Rattle.std.proofs.lemmas.List.{take-append-drop, length-take-le, get_or_append_left, set-append_left}
 use Rattle.measure.specs.Walk.{still, entry_at, join_entries, onward, through}
-use Rattle.measure.proofs.Rows.{Filled, filled_none, filled_more, filled_all, read_entry}
+use Rattle.measure.proofs.Rows.{filled_none, filled_more, filled_all, read_entry}
 use Rattle.walks.proofs.walk_meter.join_rows.Goals as goal
 
 pub loop-entry-init : goal.loop-entry-init

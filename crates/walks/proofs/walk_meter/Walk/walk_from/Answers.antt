@@ -1,26 +1,34 @@
-use Rattle.std.proofs.Common.{◌≡◌, ◌+◌, ◌-◌, get_or, take, ap, ◌∙◌, arith}
-use Rattle.std.proofs.lemmas.List.{length-take-le, take_all}
+use Rattle.std.proofs.Common.{◌≡◌, ◌+◌, ◌-◌, take, ap, arith}
+use Rattle.std.proofs.lemmas.List.{length-take-le}
+use Rattle.automaton.specs.Walk.{walk}
 use Rattle.automaton.proofs.Walk.{walk_more}
 use Rattle.measure.specs.Unmatched.{opens, closes}
 use Rattle.measure.specs.Walk.{entry}
+use Rattle.measure.specs.declared.walk_reading.Entry.{Entry}
 use Rattle.measure.proofs.Unmatched.{unmatched_few, closings_more, openings_more}
 use Rattle.measure.proofs.Walk.{same_entry}
 use Rattle.walks.proofs.walk_meter.Walk.walk_from.Goals as goal
 use Rattle.walks.proofs.walk_meter.Walk.walk_from.Goals.{in-Plain, in-Opening, in-Closing, in-Closing-2}
 
-pub overflow_add-openings : goal.overflow_add-openings
-overflow_add-openings g c =
-    let a = g.G.Grammar.meaning c.args.self.now.grammar in
-    let bytes = c.args.bytes.now in
-    let i = c.loop-byte.byte-index in
-    omega (arith, unmatched_few a c.args.state (take i bytes), length-take-le i bytes (omega arith))
+-- What equal entries have in common.
+parts : (e f : Entry) → e ≡ f → (e.end ≡ f.end) × (e.closings ≡ f.closings) × (e.openings ≡ f.openings)
+parts e f same = (ap (λ (x : Entry). x.end) same, ap (λ (x : Entry). x.closings) same, ap (λ (x : Entry). x.openings) same)
 
-pub overflow_add-closings : goal.overflow_add-closings
-overflow_add-closings g c =
+pub overflow_add-walked : goal.overflow_add-walked
+overflow_add-walked g c =
     let a = g.G.Grammar.meaning c.args.self.now.grammar in
     let bytes = c.args.bytes.now in
     let i = c.loop-byte.byte-index in
-    omega (arith, unmatched_few a c.args.state (take i bytes), length-take-le i bytes (omega arith))
+    let so_far = parts c.loop-byte.walked (entry a c.args.state (take i bytes)) c.loop-byte.invariant in
+    omega (arith, so_far.2, unmatched_few a c.args.state (take i bytes), length-take-le i bytes (omega arith))
+
+pub overflow_add-walked-in-Closing-2 : goal.overflow_add-walked-in-Closing-2
+overflow_add-walked-in-Closing-2 g c =
+    let a = g.G.Grammar.meaning c.args.self.now.grammar in
+    let bytes = c.args.bytes.now in
+    let i = c.loop-byte.byte-index in
+    let so_far = parts c.loop-byte.walked (entry a c.args.state (take i bytes)) c.loop-byte.invariant in
+    omega (arith, so_far.1, unmatched_few a c.args.state (take i bytes), length-take-le i bytes (omega arith))
 
 pub loop-byte-preserved : goal.loop-byte-preserved
 loop-byte-preserved g c =
@@ -28,30 +36,25 @@ loop-byte-preserved g c =
     let s = c.args.state in
     let bytes = c.args.bytes.now in
     let i = c.loop-byte.byte-index in
-    let byte = get_or bytes i 0 in
     let r = c.role.result in
-    let closings = c.loop-byte.closings in
-    let openings = c.loop-byte.openings in
-    let counts : (c.match-role.closings ≡ closings + (closes r - openings)) × (c.match-role.openings ≡ opens r + (openings - closes r)) =
+    let was = c.loop-byte.walked in
+    let now = c.match-role.walked in
+    let counts : (now.end ≡ was.end) × (now.closings ≡ was.closings + (closes r - was.openings)) × (now.openings ≡ opens r + (was.openings - closes r)) =
     elim c.match-role.branch [
-      | in-Plain w ↦ let o = ap opens w.in-Plain.is in let k = ap closes w.in-Plain.is in (omega arith, omega arith)
-      | in-Opening w ↦ let o = ap opens w.in-Opening.is in let k = ap closes w.in-Opening.is in (omega arith, omega arith)
-      | in-Closing w ↦ let o = ap opens w.in-Closing.is in let k = ap closes w.in-Closing.is in (omega arith, omega arith)
-      | in-Closing-2 w ↦ let o = ap opens w.in-Closing-2.is in let k = ap closes w.in-Closing-2.is in (omega arith, omega arith)
+      | in-Plain w ↦ let o = ap opens w.in-Plain.is in let k = ap closes w.in-Plain.is in let p = parts _ _ w.walked-is in (p.0, omega (arith, p.1), omega (arith, p.2))
+      | in-Opening w ↦ let o = ap opens w.in-Opening.is in let k = ap closes w.in-Opening.is in let p = parts _ _ w.walked-is in (p.0, omega (arith, p.1), omega (arith, p.2))
+      | in-Closing w ↦ let o = ap opens w.in-Closing.is in let k = ap closes w.in-Closing.is in let p = parts _ _ w.walked-is in (p.0, omega (arith, p.1), omega (arith, p.2))
+      | in-Closing-2 w ↦ let o = ap opens w.in-Closing-2.is in let k = ap closes w.in-Closing-2.is in let p = parts _ _ w.walked-is in (p.0, omega (arith, p.1), omega (arith, p.2))
     ] in
-    let state = c.loop-byte.invariant.0 in
-    let closed = c.loop-byte.invariant.1 in
-    let opened = c.loop-byte.invariant.2 in
+    let so_far = parts was (entry a s (take i bytes)) c.loop-byte.invariant in
+    let state = so_far.0 in
+    let closed = so_far.1 in
+    let opened = so_far.2 in
+    let stays = counts.0 in
     let part = c.role.ensures in
-    let next = c.step-now_in.ensures in
+    let next = c.step.ensures in
     let walked = walk_more a s bytes i c.loop-byte-test.true in
     let more = closings_more a s bytes i c.loop-byte-test.true in
     let more' = openings_more a s bytes i c.loop-byte-test.true in
-    (cc, cc counts.0, cc counts.1)
-
-pub returns : goal.returns
-returns g c =
-    let a = g.G.Grammar.meaning c.args.self.now.grammar in
-    let s = c.args.state in
-    let bytes = c.args.bytes.now in
-    same_entry c.loop-byte.invariant.0 c.loop-byte.invariant.1 c.loop-byte.invariant.2 ∙ ap (entry a s) (take_all c.loop-byte.byte-index bytes c.loop-byte-test.false)
+    let ends : c.step.result ≡ walk a s (take (i + 1) bytes) = cc in
+    same_entry ends (cc counts.1) (cc counts.2)
