@@ -9,7 +9,10 @@ use slots::memory::Memory;
 
 // Makes the first `n` slots usable and free.
 pub fn prepare<R: Copy>(memory: &mut Memory<R>, n: u16)
-    requires { (n ≤ 4096) × ((n ≤ length memory.old.slots.now) × ((n ≤ length memory.old.readings.now) × (64 * n ≤ length memory.old.store.now))) }
+    requires few { n ≤ 4096 }
+    requires slot_each { n ≤ length memory.old.slots.now }
+    requires reading_each { n ≤ length memory.old.readings.now }
+    requires store_each { 64 * n ≤ length memory.old.store.now }
     ensures { Prepared memory.old n memory.new }
 {
     memory.usable = n;

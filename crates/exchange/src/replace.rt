@@ -56,7 +56,10 @@ pub fn exchange<R: Copy, M: Meter<Reading = R>>(
     to: u16,
     bytes: &[u8],
 ) -> Option<u16>
-    requires { (Sound memory.old link) × ((from ≤ to) × ((to ≤ length (chunks_in memory.old link)) × (length (chunks_in memory.old link) - (to - from) + needed (length bytes.now) ≤ memory.old.usable))) }
+    requires sound { Sound memory.old link }
+    requires order { from ≤ to }
+    requires within { to ≤ length (chunks_in memory.old link) }
+    requires room { length (chunks_in memory.old link) - (to - from) + needed (length bytes.now) ≤ memory.old.usable }
     ensures sound { Sound memory.new result }
     ensures chunks { chunks_in memory.new result ≡ replaced from to (cut bytes.now) (chunks_in memory.old link) }
     ensures keeps { Kept (M.scale meter.now) memory.old link → Kept (M.scale meter.now) memory.new result }

@@ -78,7 +78,8 @@ pub fn overwrite<R: Copy, M: Meter<Reading = R>>(
     from: u16,
     bytes: &[u8],
 )
-    requires { (Sound memory.old link) × (from + needed (length bytes.now) ≤ length (chunks_in memory.old link)) }
+    requires sound { Sound memory.old link }
+    requires within { from + needed (length bytes.now) ≤ length (chunks_in memory.old link) }
     ensures sound { Sound memory.new link }
     ensures chunks { chunks_in memory.new link ≡ replaced from (from + needed (length bytes.now)) (cut bytes.now) (chunks_in memory.old link) }
     ensures keeps { Kept (M.scale meter.now) memory.old link → Kept (M.scale meter.now) memory.new link }

@@ -13,8 +13,8 @@ use Rattle.in_place.proofs.rewrite.overwrite.Goals as goal
 pub rewrite-requires : goal.rewrite-requires
 rewrite-requires g c =
     let m = c.args.memory.now in
-    let held = held_whole (whole_sound _ _ c.requires.0) in
-    let within = c.requires.1 in
+    let held = held_whole (whole_sound _ _ c.requires.sound) in
+    let within = c.requires.within in
     let cut = c.of-cut.ensures in
     let size = ap (length {A = ℕ}) cut.bytes in
     let few = slots_few held in
@@ -28,14 +28,14 @@ returns g c =
     let bytes = c.args.bytes.now in
     let from = c.args.from in
     let t = tree_of m c.args.link in
-    let whole = whole_sound _ _ c.requires.0 in
+    let whole = whole_sound _ _ c.requires.sound in
     let cut = c.of-cut.ensures in
     let made = c.rewrite.ensures t (held_whole whole) in
     let made_of = subst (λ bs. Rewritten μ m t 0 bs c.of-cut.result.count from (from + c.of-cut.result.count) c.rewrite.new.memory) cut.bytes made in
     let done = subst (λ q. Rewritten μ m t 0 bytes q from (from + q) c.rewrite.new.memory) cut.count made_of in
     record {
-      sound = sound_whole (overwritten_whole μ t whole bytes from c.requires.1 done);
-      chunks = overwritten_chunks μ t whole bytes from c.requires.1 done;
-      keeps = overwritten_kept μ t whole bytes from c.requires.1 done;
-      size = overwritten_size μ t whole bytes from c.requires.1 done;
+      sound = sound_whole (overwritten_whole μ t whole bytes from c.requires.within done);
+      chunks = overwritten_chunks μ t whole bytes from c.requires.within done;
+      keeps = overwritten_kept μ t whole bytes from c.requires.within done;
+      size = overwritten_size μ t whole bytes from c.requires.within done;
     }
