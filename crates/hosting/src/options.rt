@@ -29,6 +29,7 @@ pub enum Misread {
 }
 
 impl Misread {
+    // No Display: the bytes of a constant are one short clause, and through a formatter no plainer one.
     pub fn text(self) -> &'static str
         ensures { result.now ≡ misread_text self }
     {

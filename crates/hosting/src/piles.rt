@@ -6,7 +6,7 @@ use grammar::{Grammar, Words};
 use layers::{Comment, Quoted, Region};
 use report::Pile;
 
-// What is to be done with a grammar, whichever it is.
+// What is to be done with a grammar, whichever it is. No closure: it would have to be generic over the grammar, and cannot be.
 pub trait Work {
     type Output;
 

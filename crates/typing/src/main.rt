@@ -6,6 +6,7 @@
 ghost use Rattle.std.specs.Prelude.{◌≡◌, ◌≤◌, length, None};
 ghost use Rattle.model.specs.Calls.{paint_refusal};
 ghost use Rattle.document.specs.Content.{model_of};
+ghost use Rattle.typing.specs.declared.TheConstants.{CELLS};
 
 use document::{Document, Due, Pass, Refused};
 use editing::Readings;
@@ -32,68 +33,65 @@ fn scene_meter() -> SceneMeter {
     document_meter(Comment { below: Words }, Blank)
 }
 
-// Paints a due that the document waits for, on a screen that has room: it is not refused.
-fn painted(
-    scene: &mut Document<Readings<()>>,
-    meter: &SceneMeter,
-    due: Due,
-    screen: &mut [u8],
-) -> Pass
-    requires { paint_refusal (model_of scene.old) due.change (length screen.old) ≡ None }
-    ensures { (model_of scene.new).due ≡ None }
-{
-    match scene.paint(meter, due, screen) {
-        Ok(pass) => pass,
-        Err(_) => unreachable!(),
-    }
+// A document with its meter and its screen, which has room for every text.
+#[derive(Drop)]
+struct Scene<'a> {
+    document: Document<'a, Readings<()>>,
+    meter: SceneMeter,
+    screen: &'a mut [u8],
+    ghost wide: { CELLS ≤ length screen.now },
 }
 
-// One edit and its paint. A refused edit gives its pass back, and that is the pass to go on with.
-fn typed(
-    scene: &mut Document<Readings<()>>,
-    meter: &SceneMeter,
-    pass: Pass,
-    screen: &mut [u8],
-    from: u32,
-    to: u32,
-    text: &str,
-) -> Pass
-    requires painted { (model_of scene.old).due ≡ None }
-    requires wide { CELLS ≤ length screen.old }
-    ensures { (model_of scene.new).due ≡ None }
-{
-    let _ = scene.size();
-    let due = match scene.edit(meter, pass, from, to, text.as_bytes()) {
-        Ok(due) => due,
-        Err(Refused { back, refusal: _ }) => return back,
-    };
-    let _ = scene.size();
-    painted(scene, meter, due, screen)
-}
-
-// Closes a document on which nothing waits to be painted: it is not refused.
-fn closed(scene: &Document<Readings<()>>, pass: Pass)
-    requires { (model_of scene.now).due ≡ None }
-{
-    match scene.close(pass) {
-        Ok(()) => {}
-        Err(_) => unreachable!(),
+impl Scene<'_> {
+    // Paints a due that the document waits for, on a screen that has room: it is not refused.
+    fn paint(&mut self, due: Due) -> Pass
+        requires { paint_refusal (model_of self.old.document) due.change (length self.old.screen.now) ≡ None }
+        ensures { (model_of self.new.document).due ≡ None }
+    {
+        match self.document.paint(&self.meter, due, self.screen) {
+            Ok(pass) => pass,
+            Err(_) => unreachable!(),
+        }
     }
-}
 
-// The text, and below it the screen's cells for it.
-fn show(rt: &HostRuntime, scene: &Document<Readings<()>>, screen: &[u8]) -> io::Result<()> {
-    let mut text = [0; SHOWN];
-    let (bytes, _, _) = scene.size();
-    let count = (bytes as usize).min(SHOWN).min(screen.len());
-    if scene.text(0, count as u32, &mut text).is_err() {
-        return Ok(());
+    // One edit and its paint. A refused edit gives its pass back, and that is the pass to go on with.
+    fn edit(&mut self, pass: Pass, from: u32, to: u32, text: &str) -> Pass
+        requires { (model_of self.old.document).due ≡ None }
+        ensures { (model_of self.new.document).due ≡ None }
+    {
+        let _ = self.document.size();
+        let due = match self.document.edit(&self.meter, pass, from, to, text.as_bytes()) {
+            Ok(due) => due,
+            Err(Refused { back, refusal: _ }) => return back,
+        };
+        let _ = self.document.size();
+        self.paint(due)
     }
-    let mut out = quoted_text(rt.alloc(), &text[..count])?;
-    out.extend_from_slice(b"\n ")?;
-    out.extend_from_slice(&digits_text(rt.alloc(), &screen[..count])?)?;
-    out.push(b'\n')?;
-    rt.stdout().write_all(&out)
+
+    // Closes a document on which nothing waits to be painted: it is not refused.
+    fn close(&self, pass: Pass)
+        requires { (model_of self.now.document).due ≡ None }
+    {
+        match self.document.close(pass) {
+            Ok(()) => {}
+            Err(_) => unreachable!(),
+        }
+    }
+
+    // The text, and below it the screen's cells for it.
+    fn show(&self, rt: &HostRuntime) -> io::Result<()> {
+        let mut text = [0; SHOWN];
+        let (bytes, _, _) = self.document.size();
+        let count = (bytes as usize).min(SHOWN).min(self.screen.len());
+        if self.document.text(0, count as u32, &mut text).is_err() {
+            return Ok(());
+        }
+        let mut out = quoted_text(rt.alloc(), &text[..count])?;
+        out.extend_from_slice(b"\n ")?;
+        out.extend_from_slice(&digits_text(rt.alloc(), &self.screen[..count])?)?;
+        out.push(b'\n')?;
+        rt.stdout().write_all(&out)
+    }
 }
 
 fn main(rt: HostRuntime) -> io::Result<()> {
@@ -101,34 +99,22 @@ fn main(rt: HostRuntime) -> io::Result<()> {
     let mut store = vec![in rt.alloc(); 0; 64 * SLOTS]?;
     let mut readings = vec![in rt.alloc(); UNREAD; SLOTS]?;
     let mut screen = vec![in rt.alloc(); 0; CELLS]?;
-    let meter = scene_meter();
-    let mut scene = Document::new(&mut slots, &mut store, &mut readings);
-    let pass = match scene.open(&meter) {
+    let document = Document::new(&mut slots, &mut store, &mut readings);
+    let mut scene = Scene {
+        document,
+        meter: scene_meter(),
+        screen: &mut screen,
+    };
+    let pass = match scene.document.open(&scene.meter) {
         Ok(pass) => pass,
         Err(refusal) => return println!(rt; "refused {}", refusal.number()),
     };
-    let pass = typed(
-        &mut scene,
-        &meter,
-        pass,
-        &mut screen,
-        0,
-        0,
-        "wall 2.5 m # oak",
-    );
-    let first = show(&rt, &scene, &screen);
-    let pass = typed(&mut scene, &meter, pass, &mut screen, 11, 12, "");
-    let second = show(&rt, &scene, &screen);
-    let pass = typed(
-        &mut scene,
-        &meter,
-        pass,
-        &mut screen,
-        90,
-        95,
-        "beyond the end",
-    );
-    let third = show(&rt, &scene, &screen);
-    closed(&scene, pass);
+    let pass = scene.edit(pass, 0, 0, "wall 2.5 m # oak");
+    let first = scene.show(&rt);
+    let pass = scene.edit(pass, 11, 12, "");
+    let second = scene.show(&rt);
+    let pass = scene.edit(pass, 90, 95, "beyond the end");
+    let third = scene.show(&rt);
+    scene.close(pass);
     first.and(second).and(third)
 }

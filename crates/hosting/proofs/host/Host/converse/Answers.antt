@@ -37,6 +37,17 @@ loop-number-preserved g c =
           ),
     )
 
+pub returns-in_err-readable-clause-keeps : goal.returns-in_err-readable-clause-keeps
+returns-in_err-readable-clause-keeps g c keeps =
+    let meaning = g.G.Grammar.meaning in
+    let before = c.loop-number.self in
+    let after = c.answer_line.new.self in
+    let a = meaning c.args.self.now.meter.now.first.grammar in
+    let now = meaning before.meter.now.first.grammar in
+    let meant : now ≡ a = ap (λ m. meaning m.now.first.grammar) c.loop-number.invariant.0.0 in
+    let kept : Keeps before.document (document_measure now blank_measure) = subst (λ (b : Automaton). Keeps before.document (document_measure b blank_measure)) (sym meant) (c.loop-number.invariant.1 keeps).0 in
+    subst (λ (b : Automaton). Keeps after.document (document_measure b blank_measure)) meant (c.in_err-readable.ensures.keeps kept)
+
 pub returns-clause-conversed : goal.returns-clause-conversed
 returns-clause-conversed g c =
     let a = g.G.Grammar.meaning c.args.self.now.meter.now.first.grammar in

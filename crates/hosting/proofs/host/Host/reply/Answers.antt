@@ -18,8 +18,8 @@ returns-in_ok-answer_of-in-Some-clause-replies g c keeps =
     let cells = length self.desk.buffer.now in
     let call = c.in-Some.call in
     let r = asked c.args.request.now in
-    let by_states : IsCall a.count c.standing.result cells r call = subst (λ n. IsCall n c.standing.result cells r call) c.count-states.ensures c.in-Some.ensures in
-    let is : IsCall a.count m.due cells r call = subst (λ (o : Option Change). IsCall a.count o cells r call) c.standing.ensures by_states in
+    let by_states : IsCall a.count c.standing-standing.result cells r call = subst (λ n. IsCall n c.standing-standing.result cells r call) c.count-states.ensures c.in-Some.ensures in
+    let is : IsCall a.count m.due cells r call = subst (λ (o : Option Change). IsCall a.count o cells r call) c.standing-standing.ensures by_states in
     carried a (document_measure a blank_measure) r _ _ _ a.count m.due cells call is (record {
       entry = record { call = call; answer = c.perform-answer.result; after = seen c.perform-answer.new.self c.perform-answer.new.desk };
       is_call = is;

@@ -3,16 +3,16 @@ use Rattle.model.specs.Model.{text_of}
 use Rattle.model.specs.Calls.{edit_refusal, edited, paint_refusal}
 use Rattle.document.specs.Content.{model_of}
 use Rattle.document.proofs.Waiting.{due_painted}
-use Rattle.typing.proofs.typed.Goals as goal
+use Rattle.typing.proofs.Scene.edit.Goals as goal
 
-pub painted-requires : goal.painted-requires
-painted-requires c =
-    let m = model_of c.args.scene.now in
+pub paint-requires : goal.paint-requires
+paint-requires c =
+    let m = model_of c.args.self.now.document in
     let bytes = c.as_bytes.result.now in
     let due = c.in-Ok.due.change in
     let after = c.in-Ok.ensures.after in
     let numbers = c.in-Ok.ensures.numbers in
-    let cells = length c.args.screen.now in
+    let cells = length c.args.self.now.screen.now in
     let before = ap (λ z. z.0) c.size.ensures.is in
     let behind = ap (λ z. z.0) c.size-2.ensures.is in
     let free : edit_refusal m c.args.from c.args.to bytes ≡ None = sym c.in-Ok.ensures.decides in
