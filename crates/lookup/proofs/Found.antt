@@ -1,6 +1,6 @@
 -- What a search for a partner that has ended tells.
-use Rattle.std.proofs.Common.{◌≡◌, ℕ, ◌+◌, ◌≤◌, Bool, cond, List, length, take, drop, Some, None, Option, IfSome, ap, ◌∙◌, arith}
-use Rattle.std.specs.Option.{is_some}
+use Rattle.std.proofs.Common.{◌≡◌, ℕ, ◌+◌, ◌≤◌, Bool, true, false, cond, List, length, take, drop, Some, None, refl, ap, ◌∙◌, arith}
+use Rattle.std.specs.Bool.{then_some}
 use Rattle.automaton.specs.Automaton.{Automaton}
 use Rattle.automaton.specs.Walk.{state_before}
 use Rattle.automaton.specs.declared.role.BracketKind.{BracketKind}
@@ -16,10 +16,10 @@ use Rattle.locate.specs.ComesToPartner.{stopped_before, stopped_behind}
 use Rattle.locate.specs.declared.nested.Nested.{Nested}
 use Rattle.locate.proofs.Partners.{ahead_comes_to_partner, behind_comes_to_partner}
 
--- An answer that is there where a search has stopped, and is then this.
-pub then_is : (r : Option ℕ) (stopped : Bool) (n : ℕ) → is_some r ≡ stopped → IfSome r (λ x. x ≡ n) → r ≡ cond stopped (Some n) None
-then_is None stopped n e h = ap (λ b. cond b (Some n) None) e
-then_is (Some x) stopped n e h = ap Some h ∙ ap (λ b. cond b (Some n) None) e
+-- A place that is told where a search has stopped.
+pub then_is : (stopped : Bool) (m n : ℕ) → m ≡ n → then_some stopped m ≡ cond stopped (Some n) None
+then_is true m n e = ap Some e
+then_is false m n e = refl
 
 module _ (a : Automaton) (text : List ℕ) (p : ℕ) (kind : BracketKind) (short : length text ≤ longest) where
   pub ahead : role_at a text p ≡ Opening kind → (state : ℕ) → state ≡ state_before a text (p + 1) → (s : Stop Nested) → s ≡ stop (ahead_on a) (nested state 1) (drop (p + 1) text) → stopped_before (p + 1) s ≡ partner_ahead a text p

@@ -105,7 +105,7 @@ fn partner_ahead<X: Copy, G: Grammar, H: Meter<Reading = X>>(
     let behind = place + 1;
     let state = state_before(tree, meter, behind);
     let found = search_ahead(tree, meter, behind, state);
-    found.stopped.then(|| behind + found.passed as u32)
+    found.stopped.then_some(behind + found.passed as u32)
 }
 
 // The partner of a closing: where the search back from before it stops.
@@ -120,7 +120,7 @@ fn partner_behind<X: Copy, G: Grammar, H: Meter<Reading = X>>(
     let found = search_behind(tree, meter, place);
     found
         .stopped
-        .then(|| (place - found.passed as u32).saturating_sub(1))
+        .then_some((place - found.passed as u32).saturating_sub(1))
 }
 
 // The kind of a bracket, where there is one.

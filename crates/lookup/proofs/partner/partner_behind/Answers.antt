@@ -5,5 +5,5 @@ use Rattle.lookup.proofs.partner.partner_behind.Goals as goal
 
 pub returns : goal.returns
 returns g c kept kind is =
-    then_is c.then.result c.search_behind-found.result.stopped _ c.then.ensures.variant c.then.ensures.some
+    c.then_some.ensures ∙ then_is c.search_behind-found.result.stopped _ _ c.saturating_sub.ensures
     ∙ behind (g.G.Grammar.meaning c.args.meter.now.first.grammar) (text_in c.args.tree.now) c.args.place kind c.requires.short is c.search_behind-found.result (c.search_behind-found.ensures.finds kept)
