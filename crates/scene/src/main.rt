@@ -28,7 +28,10 @@ fn options_of(words: &[String]) -> Result<Options, Refusal<'_>> {
 
 fn main(rt: HostRuntime) -> anyhow::Result<()> {
     let words: Vec<String> = env::args(&rt)?.skip(1).collect(rt.alloc())?;
-    if words.iter().any(|word| Task::named(word.as_str()).is_some()) {
+    if words
+        .iter()
+        .any(|word| Task::named(word.as_str()).is_some())
+    {
         return report_on_input(&rt, &words);
     }
     let options = told(&rt, options_of(&words))?;

@@ -75,7 +75,9 @@ impl Work for OneShot<'_, '_> {
 }
 
 fn begins_with_digit(word: &str) -> bool {
-    word.as_bytes().first().is_some_and(|byte| byte.is_ascii_digit())
+    word.as_bytes()
+        .first()
+        .is_some_and(|byte| byte.is_ascii_digit())
 }
 
 // The slots that a number behind `--tree` asks for.
