@@ -11,7 +11,7 @@ use chunks::Side;
 use meter::Meter;
 use slots::memory::Memory;
 
-// Where the k-th of `count` chunks of `length` bytes begins.
+// Where the k-th of `count` chunks of so many bytes begins.
 fn begin(bytes: usize, count: usize, k: usize) -> usize
     requires some { 0 < count }
     requires within { k ≤ count }

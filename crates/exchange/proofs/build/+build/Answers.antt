@@ -1,7 +1,6 @@
 use Rattle.std.proofs.Common.{◌≡◌, ℕ, suc, ◌+◌, ◌-◌, ◌/◌, ◌≤◌, List, ◌∷◌, ◌++◌, length, sym, refl, subst, arith}
 use Rattle.chunks.specs.Tree.{leaf}
-use Rattle.chunks.specs.Cut.{Chunk, part}
-use Rattle.chunks.proofs.Cut.{chunk_fits}
+use Rattle.chunks.specs.Cut.{part}
 use Rattle.chunks.specs.declared.side.Side.TheVariants.{Left}
 use Rattle.slots.specs.Holds.{Ready}
 use Rattle.slots.specs.Join.{Joined}
@@ -26,8 +25,6 @@ returns-then-n-eq0 g t c is idle enough =
 pub store_chunk-i-requires : goal.store_chunk-i-requires
 store_chunk-i-requires g t c =
     let μ = g.M.Meter.scale c.args.meter.now in
-    let q = c.args.cut.now.count in
-    let k = c.args.k in
     let h = c.args.n / 2 in
     let r = c.args.n - h - 1 in
     let is = c.requires.idle.0 in
@@ -42,8 +39,6 @@ store_chunk-i-requires g t c =
 pub build-right-requires : goal.build-right-requires
 build-right-requires g t c κs within =
     let μ = g.M.Meter.scale c.args.meter.now in
-    let q = c.args.cut.now.count in
-    let k = c.args.k in
     let h = c.args.n / 2 in
     let r = c.args.n - h - 1 in
     let is = c.requires.idle.0 in
@@ -62,8 +57,6 @@ build-right-requires g t c κs within =
 pub join-requires : goal.join-requires
 join-requires g t c =
     let μ = g.M.Meter.scale c.args.meter.now in
-    let q = c.args.cut.now.count in
-    let k = c.args.k in
     let h = c.args.n / 2 in
     let r = c.args.n - h - 1 in
     let is = c.requires.idle.0 in

@@ -23,7 +23,6 @@ extent-requires g t c =
     let v = sides c.in-Some.is held in
     let top = v.1.1.1 in
     let left = held_left top _ (c.child-left.ensures _ _ top.holds) in
-    let right-root = c.child-right.ensures _ _ top.holds in
     (held.roomy, (_, (left.root_is, left.holds)))
 
 pub rewrite-requires : goal.rewrite-requires
@@ -33,7 +32,6 @@ rewrite-requires g t c κs within =
     let v = sides c.in-Some.is held in
     let top = v.1.1.1 in
     let left = held_left top _ (c.child-left.ensures _ _ top.holds) in
-    let right-root = c.child-right.ensures _ _ top.holds in
     let long = ap (λ (z : Tree). length (slots z)) v.1.1.0 ∙ length-append (slots v.0) (c.in-Some.i ∷ slots v.1.0) in
     let m = c.args.memory.now in
     let whole = height_held m held.roomy _ _ held.root_is held.holds in
@@ -45,12 +43,9 @@ rewrite-requires g t c κs within =
 pub renew-requires : goal.renew-requires
 renew-requires g t c =
     let held = c.requires.held.1.0 in
-    let bound = c.requires.held.1.1 in
     let v = sides c.in-Some.is held in
     let top = v.1.1.1 in
     let left = held_left top _ (c.child-left.ensures _ _ top.holds) in
-    let right-root = c.child-right.ensures _ _ top.holds in
-    let long = ap (λ (z : Tree). length (slots z)) v.1.1.0 ∙ length-append (slots v.0) (c.in-Some.i ∷ slots v.1.0) in
     let μ = g.M.Meter.scale c.args.meter.now in
     let q = c.args.cut.now.count in
     let from = c.args.from in
@@ -87,12 +82,10 @@ rewrite-requires-2 g t c κs within =
 pub link-requires : goal.link-requires
 link-requires g t c =
     let held = c.requires.held.1.0 in
-    let bound = c.requires.held.1.1 in
     let v = sides c.in-Some.is held in
     let top = v.1.1.1 in
     let left = held_left top _ (c.child-left.ensures _ _ top.holds) in
     let right-root = c.child-right.ensures _ _ top.holds in
-    let long = ap (λ (z : Tree). length (slots z)) v.1.1.0 ∙ length-append (slots v.0) (c.in-Some.i ∷ slots v.1.0) in
     let μ = g.M.Meter.scale c.args.meter.now in
     let q = c.args.cut.now.count in
     let from = c.args.from in

@@ -1,4 +1,4 @@
-use Rattle.std.proofs.Common.{sym, subst, arith}
+use Rattle.std.proofs.Common.{sym, subst}
 use Rattle.chunks.specs.Cut.{Chunk}
 use Rattle.chunks.proofs.Cut.{chunk_fits}
 use Rattle.exchange.proofs.cut.Cut.chunk.Goals as goal
