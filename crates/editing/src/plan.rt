@@ -100,7 +100,7 @@ fn affected<R: Copy>(tree: &ChunkTree<R>, from: u32, to: u32, count: usize) -> R
 {
     let run = touched(tree, from, to);
     let bytes = middle_length_of(run, from, to, count);
-    if bytes >= 1 && bytes < ENOUGH {
+    if (1..ENOUGH).contains(&bytes) {
         with_neighbour(tree, run)
     } else {
         run

@@ -16,10 +16,10 @@ with_neighbour-requires g c =
     let covers = subst (Covers chunks c.args.from c.args.to) (sym c.touched-run.ensures) (covers_touched chunks c.args.from c.args.to c.requires.forward c.requires.inside) in
     record { is = covers.is; ordered = covers.ordered; known = covers.known; short = c.requires.short }
 
-pub returns-then-bytes-lt-ENOUGH : goal.returns-then-bytes-lt-ENOUGH
+pub returns-then-contains : goal.returns-then-contains
 unfolding affected
-returns-then-bytes-lt-ENOUGH g c = search rules
+returns-then-contains g c = search rules
 
-pub returns-else-bytes-ge1 : goal.returns-else-bytes-ge1
+pub returns-else-contains : goal.returns-else-contains
 unfolding affected
-returns-else-bytes-ge1 g c = search rules
+returns-else-contains g c = search rules
