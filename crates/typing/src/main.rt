@@ -68,7 +68,10 @@ impl Scene<'_> {
         ensures { (model_of self.new.document).due ≡ None }
     {
         let _ = self.document.size();
-        let due = match self.document.edit(&self.meter, pass, from, to, text.as_bytes()) {
+        let due = match self
+            .document
+            .edit(&self.meter, pass, from, to, text.as_bytes())
+        {
             Ok(due) => due,
             Err(Refused { back, refusal: _ }) => return back,
         };
