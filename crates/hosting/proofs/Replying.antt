@@ -5,7 +5,7 @@ use Rattle.measure.specs.Measure.{Measure}
 use Rattle.model.specs.declared.change.Change.{Change}
 use Rattle.document.specs.declared.call.Call.{Call}
 use Rattle.document.specs.Snapshot.{Snapshot}
-use Rattle.session.specs.Asked.{Asked, PassedOver, Open, Edit, Paint, Close, Text, Colours, Size, Screen, Script, Range, Same, Place, Spot, Partner}
+use Rattle.session.specs.Asked.{Asked, PassedOver, Screen}
 use Rattle.hosting.specs.Replies.{IsCall, Readings, CarriesOut, Replies}
 
 pub carried : {X : Type 0} (a : Automaton) (μ : Measure (Readings X)) (r : Asked) (before after : Snapshot (Readings X)) (out : Option (List ℕ)) (states : ℕ) (standing : Option Change) (cells : ℕ) (k : Call) →

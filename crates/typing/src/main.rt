@@ -14,6 +14,7 @@ use grammar::Words;
 use layers::Comment;
 use load::room::{UNREAD, UNUSED};
 use meter::Blank;
+use model::Refusal;
 use notation::{digits_text, quoted_text};
 use std::io;
 use std::io::Write;
@@ -33,22 +34,27 @@ fn scene_meter() -> SceneMeter {
     document_meter(Comment { below: Words }, Blank)
 }
 
-// A document with its meter and its screen, which has room for every text.
+// A document with its screen, which has room for every text.
 #[derive(Drop)]
 struct Scene<'a> {
     document: Document<'a, Readings<()>>,
-    meter: SceneMeter,
     screen: &'a mut [u8],
     ghost wide: { CELLS ≤ length screen.now },
 }
 
 impl Scene<'_> {
+    fn open(&mut self) -> Result<Pass, Refusal>
+        ensures { (model_of self.new.document).due ≡ (model_of self.old.document).due }
+    {
+        self.document.open(&scene_meter())
+    }
+
     // Paints a due that the document waits for, on a screen that has room: it is not refused.
     fn paint(&mut self, due: Due) -> Pass
         requires { paint_refusal (model_of self.old.document) due.change (length self.old.screen.now) ≡ None }
         ensures { (model_of self.new.document).due ≡ None }
     {
-        match self.document.paint(&self.meter, due, self.screen) {
+        match self.document.paint(&scene_meter(), due, self.screen) {
             Ok(pass) => pass,
             Err(_) => unreachable!(),
         }
@@ -60,7 +66,10 @@ impl Scene<'_> {
         ensures { (model_of self.new.document).due ≡ None }
     {
         let _ = self.document.size();
-        let due = match self.document.edit(&self.meter, pass, from, to, text.as_bytes()) {
+        let due = match self
+            .document
+            .edit(&scene_meter(), pass, from, to, text.as_bytes())
+        {
             Ok(due) => due,
             Err(Refused { back, refusal: _ }) => return back,
         };
@@ -102,10 +111,9 @@ fn main(rt: HostRuntime) -> io::Result<()> {
     let document = Document::new(&mut slots, &mut store, &mut readings);
     let mut scene = Scene {
         document,
-        meter: scene_meter(),
         screen: &mut screen,
     };
-    let pass = match scene.document.open(&scene.meter) {
+    let pass = match scene.open() {
         Ok(pass) => pass,
         Err(refusal) => return println!(rt; "refused {}", refusal.number()),
     };

@@ -1,4 +1,4 @@
-use Rattle.std.proofs.Common.{◌≡◌, rules, arith, OnOk, ap, sym, subst, ◌∙◌}
+use Rattle.std.proofs.Common.{◌≡◌, rules, arith, ap, sym, subst, ◌∙◌}
 use Rattle.automaton.specs.Automaton.{Automaton}
 use Rattle.document.specs.Content.{Keeps}
 use Rattle.editing.specs.Content.{document_measure}
