@@ -12,11 +12,11 @@ use editing::Readings;
 use grammar::Words;
 use layers::Comment;
 use load::room::{UNREAD, UNUSED};
-use meter::Blank;
+use meter::{Blank, Pair, Place};
 use notation::{digits_text, quoted_text};
 use std::io;
 use std::io::Write;
-use walks::{DocumentMeter, document_meter};
+use walks::{DocumentMeter, Walk};
 
 const SLOTS: usize = 8;
 
@@ -29,7 +29,15 @@ const CELLS: usize = 262144;
 type SceneMeter = DocumentMeter<Comment<Words>, Blank>;
 
 fn scene_meter() -> SceneMeter {
-    document_meter(Comment { below: Words }, Blank)
+    Pair {
+        first: Walk {
+            grammar: Comment { below: Words },
+        },
+        second: Pair {
+            first: Place,
+            second: Blank,
+        },
+    }
 }
 
 // Paints a due that the document waits for, on a screen that has room: it is not refused.
