@@ -38,16 +38,16 @@ pub fn load<G: Grammar + Copy>(
         },
     };
     let mut tree = ChunkTree::new(slots, store, readings);
-    if !tree.prepare(usable) {
+    let Ok(()) = tree.prepare(usable) else {
         return None;
-    }
+    };
     for k in 0..text.len().div_ceil(PIECE) {
         let from = k * PIECE;
         let to = from + (text.len() - from).min(PIECE);
         let end = tree.chunks();
-        if !tree.replace(&meter, end, end, &text[from..to]) {
+        let Ok(()) = tree.replace(&meter, end, end, &text[from..to]) else {
             return None;
-        }
+        };
     }
     let bytes = tree.bytes();
     let reading = tree.reading(&meter, 0, bytes);

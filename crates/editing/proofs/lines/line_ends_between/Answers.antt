@@ -17,7 +17,7 @@ loop-at-preserved g c =
     let next = c.min-next.result in
     let further : at ≤ next = omega arith in
     let inside : next ≤ length text = omega (arith, c.bytes.ensures.is, c.min-end.ensures, c.min-next.ensures) in
-    let block = block_front c.args.tree.now at next c.loop-at.block c.copy.new.out c.copy.result c.copy.ensures.answer c.copy.ensures.copied further inside (omega (arith, c.min-next.array_long, c.min-next.ensures)) in
+    let block = block_front c.args.tree.now at next c.loop-at.block c.copy.new.out _ c.copy.ensures.done c.copy.ensures.copied further inside (omega (arith, c.min-next.array_long, c.min-next.ensures)) in
     let more = block_more text c.args.from at next c.loop-at.invariant.forward further inside in
     record {
       forward = omega (arith, c.loop-at.invariant.forward);

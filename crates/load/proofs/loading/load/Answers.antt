@@ -18,36 +18,36 @@ use Rattle.load.proofs.loading.load.Goals as goal
 
 pub loop-k-init : goal.loop-k-init
 loop-k-init g c =
-    let made = c.if-not-prepare.ensures in
-    (subst (SoFar c.args.text.now c.args.usable 0) (sym made.chunks) (so_far_none c.args.text.now c.args.usable), made.usable, made.keeps refl _)
+    let made = c.in-Ok.ensures in
+    (subst (SoFar c.args.text.now c.args.usable 0) (sym made.chunks) (so_far_none c.args.text.now c.args.usable), made.usable, made.keeps _)
 
 pub loop-k-preserved : goal.loop-k-preserved
 loop-k-preserved g c =
-    let done = c.if-not-replace.ensures in
+    let done = c.in-Ok-replace.ensures in
     let text = c.args.text.now in
     let k = c.loop-k.k in
     let some : k * 1024 < length text = omega arith in
     let ends : k * 1024 + c.min.result ≡ k * 1024 + min (length text - k * 1024) 1024 = ap (λ n. k * 1024 + n) c.min.ensures in (
-      so_far_more text c.args.usable k (k * 1024 + c.min.result) ends (chunks_now c.loop-k.tree) c.chunks-end.result c.loop-k.tree.memory.usable c.loop-k.invariant.0 some c.chunks-end.ensures.is c.loop-k.invariant.1 _ done.chunks done.answer,
+      so_far_more text c.args.usable k (k * 1024 + c.min.result) ends (chunks_now c.loop-k.tree) c.chunks-end.result c.loop-k.tree.memory.usable c.loop-k.invariant.0 some c.chunks-end.ensures.is c.loop-k.invariant.1 _ done.chunks done.done,
       done.size.usable ∙ c.loop-k.invariant.1,
       done.keeps c.loop-k.invariant.2,
     )
 
-pub returns-then-not-prepare : goal.returns-then-not-prepare
-returns-then-not-prepare g c =
+pub returns-in_default : goal.returns-in_default
+returns-in_default g c =
     let tree = c.new-tree.ensures in
     let room = room_is c.new-tree.result c.args.usable c.args.slots.now c.args.store.now c.args.readings.now tree.usable tree.slots tree.store tree.readings in
-    let none : roomy c.args.usable c.args.slots.now c.args.store.now c.args.readings.now ≡ false = sym room ∙ sym c.if-not-prepare.ensures.answer in
+    let none : roomy c.args.usable c.args.slots.now c.args.store.now c.args.readings.now ≡ false = sym room ∙ sym c.in_default.ensures.done in
     and_left _ _ none
 
-pub returns-then-not-replace : goal.returns-then-not-replace
-returns-then-not-replace g c =
+pub returns-in_default-replace : goal.returns-in_default-replace
+returns-in_default-replace g c =
     let text = c.args.text.now in
     let k = c.loop-k.k in
     let n = c.args.usable in
     let some : k * 1024 < length text = omega arith in
     let ends : k * 1024 + c.min.result ≡ k * 1024 + min (length text - k * 1024) 1024 = ap (λ n. k * 1024 + n) c.min.ensures in
-    let over = so_far_full text n k (k * 1024 + c.min.result) ends (chunks_now c.loop-k.tree) c.chunks-end.result c.loop-k.tree.memory.usable c.loop-k.invariant.0 some c.chunks-end.ensures.is c.loop-k.invariant.1 c.if-not-replace.ensures.answer in
+    let over = so_far_full text n k (k * 1024 + c.min.result) ends (chunks_now c.loop-k.tree) c.chunks-end.result c.loop-k.tree.memory.usable c.loop-k.invariant.0 some c.chunks-end.ensures.is c.loop-k.invariant.1 c.in_default-replace.ensures.done in
     and_right _ _ (lt-leb (needed (length text)) n over)
 
 pub returns : goal.returns
@@ -64,7 +64,7 @@ returns g c =
     let few = so_far_few text n k chunks so_far all in
     let made = c.new-tree.ensures in
     let room = room_is c.new-tree.result n c.args.slots.now c.args.store.now c.args.readings.now made.usable made.slots made.store made.readings in
-    let can : roomy n c.args.slots.now c.args.store.now c.args.readings.now ≡ true = sym room ∙ sym c.if-not-prepare.ensures.answer in
+    let can : roomy n c.args.slots.now c.args.store.now c.args.readings.now ≡ true = sym room ∙ sym c.in-Ok.ensures.done in
     let enough : needed (length text) ≤ n = omega (arith, few, so_far.enough) in
     let μ = pair_measure (walk_measure a) (pair_measure place_measure blank_measure) in
     let total : length (joined chunks) ≤ c.bytes-bytes.result = omega (arith, c.bytes-bytes.ensures.is) in
