@@ -11,21 +11,8 @@ use crate::states::state_before;
 use grammar::{Grammar, colour_cells};
 use meter::Meter;
 use model::{Change, Refusal};
-use tree::ChunkTree;
+use tree::{ChunkTree, CopyRefusal};
 use walks::{DocumentMeter, Readings};
-
-// Why a range cannot be copied into a buffer of so many cells, if it cannot.
-fn range_refusal<R: Copy>(tree: &ChunkTree<R>, from: u32, to: u32, cells: usize) -> Option<Refusal>
-    ensures { result ≡ range_refused (model_in tree.now None) from to cells }
-{
-    if from > to || to > tree.bytes() {
-        return Some(Refusal::OutsideText(to as u64));
-    }
-    if (to - from) as usize > cells {
-        return Some(Refusal::ShortBuffer(cells as u64));
-    }
-    None
-}
 
 // Copies the bytes of a range to the front of a buffer.
 pub fn copy_text<R: Copy>(
@@ -37,11 +24,11 @@ pub fn copy_text<R: Copy>(
     ensures answer { result ≡ answered (range_refused (model_in tree.now None) from to (length out.old)) tt }
     ensures written { out.new ≡ (if is_ok result then with_front (between from to (text_in tree.now)) out.old else out.old) }
 {
-    if let Some(refusal) = range_refusal(tree, from, to, out.len()) {
-        return Err(refusal);
-    }
-    let _ = tree.copy(from, to, out);
-    Ok(())
+    let cells = out.len() as u64;
+    tree.copy(from, to, out).map_err(|refusal| match refusal {
+        CopyRefusal::OutsideText => Refusal::OutsideText(to as u64),
+        CopyRefusal::ShortBuffer => Refusal::ShortBuffer(cells),
+    })
 }
 
 // Writes the colours of a range to the front of a buffer.

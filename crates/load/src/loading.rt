@@ -29,14 +29,14 @@ pub fn load<G: Grammar + Copy>(
 {
     let meter = document_meter(*grammar, Blank);
     let mut tree = ChunkTree::new(slots, store, readings);
-    if !tree.prepare(usable) {
+    let Ok(()) = tree.prepare(usable) else {
         return None;
-    }
+    };
     for piece in text.chunks(PIECE) {
         let end = tree.chunks();
-        if !tree.replace(&meter, end, end, piece) {
+        let Ok(()) = tree.replace(&meter, end, end, piece) else {
             return None;
-        }
+        };
     }
     let bytes = tree.bytes();
     let reading = tree.reading(&meter, 0, bytes);

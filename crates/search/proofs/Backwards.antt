@@ -6,10 +6,6 @@ use Rattle.search.specs.declared.stop.Stop.{Stop}
 use Rattle.search.specs.Forwards.{shifted, after}
 use Rattle.search.specs.Backwards.{forwards, leftwards, back_stop}
 
-pub forwards_append : {F : Type 0} (fore : F → ℕ → F) (f : F) (xs ys : List ℕ) → forwards fore f (xs ++ ys) ≡ forwards fore (forwards fore f xs) ys
-forwards_append fore f [] ys = refl
-forwards_append fore f (b ∷ xs) ys = forwards_append fore (fore f b) xs ys
-
 module _ {A : Type 0} where
   abbrev stop_of : ℕ → A → Bool → Stop A
   stop_of n a s = record { passed = n; at = a; stopped = s }
@@ -49,10 +45,6 @@ module _ {F A : Type 0} (fore : F → ℕ → F) (prev : F → ℕ → A → Opt
   back_stop_append f (b ∷ xs) ys a =
       ap (step f b) (back_stop_append (fore f b) xs ys a) ∙ step_after f b (back_stop fore prev (forwards fore (fore f b) xs) ys a) (λ x. back_stop fore prev (fore f b) xs x)
 
--- What is left of a run of bytes, one byte on.
-pub forwards_rest : {F : Type 0} (fore : F → ℕ → F) (f : F) (xs : List ℕ) (i : ℕ) → i < length xs → forwards fore f (drop i xs) ≡ forwards fore (fore f (get_or xs i 0)) (drop (i + 1) xs)
-forwards_rest fore f xs i h = ap (forwards fore f) (drop_more xs i 0 h)
-
 module _ {F A : Type 0} (fore : F → ℕ → F) (prev : F → ℕ → A → Option A) where
   left_few : (n : ℕ) (s : Stop A) (o : Option A) → s.passed ≤ n → (leftwards s o).passed ≤ suc n
   left_few n s None h = omega arith
@@ -65,31 +57,6 @@ module _ {F A : Type 0} (fore : F → ℕ → F) (prev : F → ℕ → A → Opt
       let s = back_stop fore prev (fore f b) xs a in
       let few = back_few (fore f b) xs a in
       cond_both s.stopped s (leftwards s (prev f b s.at)) (λ z. z.passed ≤ suc (length xs)) (λ e. omega arith) (λ e. left_few (length xs) s (prev f b s.at) few)
-
-  pub back_none : (f : F) (xs : List ℕ) (a : A) → length xs ≡ 0 → record { passed = 0; at = a; stopped = false } ≡ back_stop fore prev f xs a
-  back_none f xs a e = ap (λ l. back_stop fore prev f l a) (sym (nil_from_length xs e))
-
-  -- From behind to the first byte, and then over that byte.
-  back_first : (f : F) (xs : List ℕ) (a : A) → 0 < length xs → let s = back_stop fore prev (fore f (get_or xs 0 0)) (take (length xs - 1) (drop 1 xs)) a in back_stop fore prev f xs a ≡ cond s.stopped s (leftwards s (prev f (get_or xs 0 0) s.at))
-  back_first f [] a h = absurd (omega arith)
-  back_first f (b ∷ xs) a h =
-      let rest : take (suc (length xs) - 1) xs ≡ xs = take_all (suc (length xs) - 1) xs (omega arith) in
-      ap (λ l. let s = back_stop fore prev (fore f b) l a in cond s.stopped s (leftwards s (prev f b s.at))) (sym rest)
-
-  module _ (f : F) (xs : List ℕ) (a : A) (some : 0 < length xs) (s : Stop A) (is : s ≡ back_stop fore prev (fore f (get_or xs 0 0)) (take (length xs - 1) (drop 1 xs)) a) where
-    whole : back_stop fore prev f xs a ≡ cond s.stopped s (leftwards s (prev f (get_or xs 0 0) s.at))
-    whole = back_first f xs a some ∙ ap (λ z. cond z.stopped z (leftwards z (prev f (get_or xs 0 0) z.at))) (sym is)
-
-    pub back_stops : s.stopped ≡ true → s ≡ back_stop fore prev f xs a
-    back_stops e = sym (whole ∙ cond-true s.stopped s (leftwards s (prev f (get_or xs 0 0) s.at)) e)
-
-    pub back_over : (o : Option A) → s.stopped ≡ false → prev f (get_or xs 0 0) s.at ≡ o → leftwards s o ≡ back_stop fore prev f xs a
-    back_over o e p = sym (whole ∙ cond-false s.stopped s (leftwards s (prev f (get_or xs 0 0) s.at)) e ∙ ap (leftwards s) p)
-
-    pub back_less : s.passed < length xs
-    back_less =
-        let few = back_few (fore f (get_or xs 0 0)) (take (length xs - 1) (drop 1 xs)) a in
-        omega (arith, ap (λ z. z.passed) is, few, length-take (length xs - 1) (drop 1 xs), length-drop 1 xs)
 
   -- A search that stops in the second text has stopped in both; one that does not goes on before it.
   pub stops_behind : (f : F) (xs ys : List ℕ) (a : A) (s : Stop A) → s ≡ back_stop fore prev (forwards fore f xs) ys a → s.stopped ≡ true → s ≡ back_stop fore prev f (xs ++ ys) a

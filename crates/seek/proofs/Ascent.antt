@@ -103,27 +103,27 @@ module _ {R F A : Type 0} (fore : F → ℕ → F) (back : F → ℕ → A → O
   stopped_right stopped = whole (stops_last fore back (KeptUnder s μ) f xs (cs ++ ys) a rest (stops_last fore back (KeptUnder s μ) (forwards fore f xs) cs ys a rest on_right stopped) stopped)
 
   module _ (running : rest.stopped ≡ false) (own : Stop A) (here : Behind fore back (p.reading.now ≡ reading μ p.chunk.now) inner cs rest.at own) where
-   -- All that is passed lies in the text.
-   pub own_fits : rest.passed + own.passed ≤ length (take place (text_under s))
-   own_fits = omega (arith, right.within, here.within, ap length (parts_before apart place inside beyond inside-is beyond-is), length-append xs (cs ++ ys), length-append cs ys)
+    -- All that is passed lies in the text.
+    pub own_fits : rest.passed + own.passed ≤ length (take place (text_under s))
+    own_fits = omega (arith, right.within, here.within, ap length (parts_before apart place inside beyond inside-is beyond-is), length-append xs (cs ++ ys), length-append cs ys)
 
-   module _ (both : Stop A) (both-is : both ≡ shifted rest.passed own) where
-    so_far : Behind fore back (KeptUnder s μ) (forwards fore f xs) (cs ++ ys) a both
-    so_far = goes_back fore back (KeptUnder s μ) (forwards fore f xs) cs ys a rest on_right running own
-        (record {
-          within = here.within;
-          finds = λ k.
-              here.finds (apart.own_kept μ k)
-              ∙ ap (λ z. back_stop fore back z cs rest.at) (before_own k)
-              ∙ state_own fore back f place inside (text_under p.left) p.chunk.now rest.at inside-is;
-        })
-        both both-is
+    module _ (both : Stop A) (both-is : both ≡ shifted rest.passed own) where
+      so_far : Behind fore back (KeptUnder s μ) (forwards fore f xs) (cs ++ ys) a both
+      so_far = goes_back fore back (KeptUnder s μ) (forwards fore f xs) cs ys a rest on_right running own
+          (record {
+            within = here.within;
+            finds = λ k.
+                here.finds (apart.own_kept μ k)
+                ∙ ap (λ z. back_stop fore back z cs rest.at) (before_own k)
+                ∙ state_own fore back f place inside (text_under p.left) p.chunk.now rest.at inside-is;
+          })
+          both both-is
 
-    pub stopped_own : both.stopped ≡ true → Behind fore back (KeptUnder s μ) f (take place (text_under s)) a both
-    stopped_own stopped = whole (stops_last fore back (KeptUnder s μ) f xs (cs ++ ys) a both so_far stopped)
+      pub stopped_own : both.stopped ≡ true → Behind fore back (KeptUnder s μ) f (take place (text_under s)) a both
+      stopped_own stopped = whole (stops_last fore back (KeptUnder s μ) f xs (cs ++ ys) a both so_far stopped)
 
-    pub found_all : both.stopped ≡ false → (first : Stop A) → Behind fore back (KeptUnder p.left μ) f xs both.at first → (all : Stop A) → all ≡ shifted both.passed first → Behind fore back (KeptUnder s μ) f (take place (text_under s)) a all
-    found_all goes first left all is = whole (goes_back fore back (KeptUnder s μ) f xs (cs ++ ys) a both so_far goes first (record { within = left.within; finds = λ k. left.finds (apart.left_keeps μ k) }) all is)
+      pub found_all : both.stopped ≡ false → (first : Stop A) → Behind fore back (KeptUnder p.left μ) f xs both.at first → (all : Stop A) → all ≡ shifted both.passed first → Behind fore back (KeptUnder s μ) f (take place (text_under s)) a all
+      found_all goes first left all is = whole (goes_back fore back (KeptUnder s μ) f xs (cs ++ ys) a both so_far goes first (record { within = left.within; finds = λ k. left.finds (apart.left_keeps μ k) }) all is)
 
 -- What it came to on the right, where it begins with the state behind the own chunk, or not at all.
 module _ {R F A : Type 0} (fore : F → ℕ → F) (back : F → ℕ → A → Option A) (μ : Measure R) (a : A) {s : Subtree R} {p : Parts R} (apart : Apart s p) (inner : F) (beyond : ℕ) where

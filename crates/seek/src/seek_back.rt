@@ -36,7 +36,9 @@ fn seek_chunk_back<S: Backward>(
     ensures within { result.passed ≤ length (take place chunk.now) }
     ensures finds { kept.now ≡ reading_of (S.scale search.now) chunk.now → result ≡ back_stop (S.fore search.now) (S.back search.now) state (take place chunk.now) at }
 {
-    if place >= chunk.len() && let Some(before) = search.pass_back(state, kept, at) {
+    if place >= chunk.len()
+        && let Some(before) = search.pass_back(state, kept, at)
+    {
         return ran_through(chunk.len(), before);
     }
     let to = place.min(chunk.len());
@@ -58,7 +60,10 @@ pub fn seek_back<S: Backward>(
         return ran_through(0, at);
     }
     let bytes = tree.bytes();
-    if place >= bytes && let Some(kept) = tree.kept() && let Some(before) = search.pass_back(state, kept, at) {
+    if place >= bytes
+        && let Some(kept) = tree.kept()
+        && let Some(before) = search.pass_back(state, kept, at)
+    {
         return ran_through(bytes, before);
     }
     let Some(parts) = tree.parts() else {

@@ -10,7 +10,9 @@ use search::stop::Stop;
 pub fn ahead_of_bytes<S: Backward>(search: &S, state: S::Fore, bytes: &[u8]) -> S::Fore
     ensures { result ≡ forwards (S.fore search.now) state bytes.now }
 {
-    bytes.iter().fold(state, |behind, byte| search.ahead(behind, *byte))
+    bytes
+        .iter()
+        .fold(state, |behind, byte| search.ahead(behind, *byte))
 }
 
 // Where the search comes to in the bytes, from behind them.

@@ -21,7 +21,9 @@ fn seek_chunk<S: Forward>(
     ensures within { result.passed ≤ length (drop place chunk.now) }
     ensures finds { kept.now ≡ reading_of (S.scale search.now) chunk.now → result ≡ stop (S.goes search.now) at (drop place chunk.now) }
 {
-    if place == 0 && let Some(behind) = search.pass(at, kept) {
+    if place == 0
+        && let Some(behind) = search.pass(at, kept)
+    {
         return ran_through(chunk.len(), behind);
     }
     let from = place.min(chunk.len());
@@ -42,7 +44,10 @@ pub fn seek<S: Forward>(
     if place >= bytes {
         return ran_through(0, at);
     }
-    if place == 0 && let Some(kept) = tree.kept() && let Some(behind) = search.pass(at, kept) {
+    if place == 0
+        && let Some(kept) = tree.kept()
+        && let Some(behind) = search.pass(at, kept)
+    {
         return ran_through(bytes, behind);
     }
     let Some(parts) = tree.parts() else {

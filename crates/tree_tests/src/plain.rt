@@ -2,16 +2,7 @@
 ghost use Rattle.std.specs.Prelude.{◌≤◌, vec_len};
 
 use std::alloc::{AllocError, Global};
-
-// What comes of a replacement.
-#[derive(Clone, Copy)]
-pub enum Outcome {
-    Done,
-    // The chunks to be replaced are no run of chunks.
-    NoRun,
-    // There would be more chunks than slots.
-    NoRoom,
-}
+use tree::ReplaceRefusal;
 
 #[derive(Drop)]
 pub struct Plain {
@@ -39,15 +30,21 @@ impl Plain {
     }
 
     // What comes of putting so many bytes for the chunks from `from` up to `to` where there are `slots`.
-    pub fn outcome(&self, slots: usize, from: usize, to: usize, bytes: usize) -> Outcome {
+    pub fn outcome(
+        &self,
+        slots: usize,
+        from: usize,
+        to: usize,
+        bytes: usize,
+    ) -> Result<(), ReplaceRefusal> {
         let chunks = self.lengths.len();
         if from > to || to > chunks {
-            return Outcome::NoRun;
+            return Err(ReplaceRefusal::NoRun);
         }
         if (chunks - (to - from)).saturating_add(bytes.div_ceil(64)) > slots {
-            return Outcome::NoRoom;
+            return Err(ReplaceRefusal::NoRoom);
         }
-        Outcome::Done
+        Ok(())
     }
 
     // The same with the chunks from `from` up to `to` replaced.

@@ -1,6 +1,6 @@
 // Hundreds of replacements, some of them refused, in a tree of few slots and in plain lists.
 use crate::dice::Dice;
-use crate::plain::{Outcome, Plain};
+use crate::plain::Plain;
 use grammar::Words;
 use layers::{Comment, Quoted};
 use measure::pair_reading::PairReading;
@@ -10,7 +10,7 @@ use meter::{Meter, Pair, Place};
 use slots::slot::{Node, Slot};
 use std::alloc::{AllocError, Global};
 use std::test::Fail;
-use tree::ChunkTree;
+use tree::{ChunkTree, ReplaceRefusal};
 use walks::Walk;
 
 type Reading = PairReading<Option<Passage>, Option<Extent>>;
@@ -108,7 +108,7 @@ impl Both<'_> {
     }
 
     // One replacement: it is done, or refused with nothing changed, as the plain lists foresee.
-    fn replace(&mut self, heap: Global) -> Result<Outcome, Fail> {
+    fn replace(&mut self, heap: Global) -> Result<Result<(), ReplaceRefusal>, Fail> {
         let Both { dice, tree, plain } = self;
         let bytes = some_bytes(heap, dice)?;
         let from = dice.roll(tree.chunks());
@@ -116,9 +116,11 @@ impl Both<'_> {
             .saturating_add(dice.roll(3))
             .saturating_sub(dice.roll(1));
         let outcome = plain.outcome(SLOTS as usize, from as usize, to as usize, bytes.len());
-        let done = tree.replace(&meter(), from, to, &bytes);
-        agreed(done == matches!(outcome, Outcome::Done), On::Outcome)?;
-        if done {
+        agreed(
+            tree.replace(&meter(), from, to, &bytes) == outcome,
+            On::Outcome,
+        )?;
+        if outcome.is_ok() {
             *plain = plain.replaced(heap, from as usize, to as usize, &bytes)?;
         }
         self.agree()?;
@@ -133,7 +135,7 @@ fn tree_follows_plain_lists(rt: HostRuntime) -> Result<(), Fail> {
     let mut store = vec![in heap; 0; 64 * SLOTS as usize]?;
     let mut readings = vec![in heap; UNREAD; SLOTS as usize]?;
     let mut tree = ChunkTree::new(&mut slots, &mut store, &mut readings);
-    assert!(rt; tree.prepare(SLOTS));
+    assert!(rt; tree.prepare(SLOTS).is_ok());
     let mut both = Both {
         dice: Dice { state: 1 },
         tree,
@@ -144,9 +146,9 @@ fn tree_follows_plain_lists(rt: HostRuntime) -> Result<(), Fail> {
     let mut no_room = 0u16;
     for _ in 0..600 {
         match both.replace(heap)? {
-            Outcome::Done => done = done.saturating_add(1),
-            Outcome::NoRun => no_run = no_run.saturating_add(1),
-            Outcome::NoRoom => no_room = no_room.saturating_add(1),
+            Ok(()) => done = done.saturating_add(1),
+            Err(ReplaceRefusal::NoRun) => no_run = no_run.saturating_add(1),
+            Err(ReplaceRefusal::NoRoom) => no_room = no_room.saturating_add(1),
         }
     }
     assert!(rt; done > 400 && no_run > 40 && no_room > 40);

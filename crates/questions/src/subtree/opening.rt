@@ -9,9 +9,9 @@ ghost use Rattle.questions.specs.Parted.{Parted, KeptAs};
 
 use crate::span::Span;
 use crate::subtree::{Parts, Subtree};
+use balance::link::extent;
 use slots::memory::Memory;
 use slots::slot::Extent;
-use balance::link::extent;
 
 impl<'m, 'a, R: Copy> Subtree<'m, 'a, R> {
     // The tree that memory holds.

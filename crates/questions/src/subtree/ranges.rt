@@ -9,12 +9,7 @@ use crate::subtree::Subtree;
 use meter::Meter;
 
 // The reading of what a range takes of a chunk: the kept one where that is all of it.
-fn chunk_reading<R: Copy, M: Meter<Reading = R>>(
-    meter: &M,
-    chunk: &[u8],
-    kept: &R,
-    span: Span,
-) -> R
+fn chunk_reading<R: Copy, M: Meter<Reading = R>>(meter: &M, chunk: &[u8], kept: &R, span: Span) -> R
     ensures { kept.now ≡ reading_of (M.scale meter.now) chunk.now → result ≡ reading_of (M.scale meter.now) (within span chunk.now) }
 {
     if span.from == 0 && span.to >= chunk.len() {
@@ -32,7 +27,10 @@ impl<R: Copy> Subtree<'_, '_, R> {
         if span.from >= span.to || span.from >= bytes {
             return meter.empty();
         }
-        if span.from == 0 && span.to >= bytes && let Some(kept) = self.kept() {
+        if span.from == 0
+            && span.to >= bytes
+            && let Some(kept) = self.kept()
+        {
             return *kept;
         }
         let Some(parts) = self.parts() else {

@@ -25,7 +25,7 @@ returns g c =
     let long-head : length head ≡ h = length_between run.start from text inner in
     let long-tail : length tail ≡ run.end - to = length_between to run.end text c.requires.within in
     let one = c.copy.new.out in
-    let first : one ≡ head ++ drop h out = copied_front T run.start from out one _ c.copy.ensures.answer c.copy.ensures.copied c.requires.before inner (omega arith) in
+    let first : one ≡ head ++ drop h out = copied_front T run.start from out one _ c.copy.ensures.done c.copy.ensures.copied c.requires.before inner (omega arith) in
     let gap : h + m - h ≡ m = omega arith in
     let two = put_mid h (h + m - h) one c.copy_from_slice.new.self in
     let second : two ≡ put_mid h m one new = ap (λ n. put_mid h n one c.copy_from_slice.new.self) gap ∙ ap (put_mid h m one) c.copy_from_slice.ensures.after in
@@ -34,7 +34,7 @@ returns g c =
     let long-two : length two ≡ length out = ap length second ∙ same_len_mid h m one new (sym (length-take-le m (drop h one) (omega (arith, length-drop h one)))) ∙ long-one in
     let part = c.copy-2.new.out in
     let third : part ≡ tail ++ drop (length tail) (drop (h + m) two) =
-    copied_front T to run.end (between (h + m) (length two) two) part _ c.copy-2.ensures.answer c.copy-2.ensures.copied c.requires.behind c.requires.within (omega (arith, ap length rest, length-drop (h + m) two))
+    copied_front T to run.end (between (h + m) (length two) two) part _ c.copy-2.ensures.done c.copy-2.ensures.copied c.requires.behind c.requires.within (omega (arith, ap length rest, length-drop (h + m) two))
     ∙ ap (λ l. tail ++ drop (run.end - to) l) rest ∙ ap (λ n. tail ++ drop n (drop (h + m) two)) (sym long-tail) in
     record {
       long = omega arith;

@@ -25,7 +25,7 @@ returns g c =
     let can = can_replace T c.args.from c.args.to new c.requires.allowed run c.requires.is (take (n - 0) out) is in
     let size = c.replace.ensures.size in
     record {
-      chunks = c.replace.ensures.chunks ∙ cond-true _ (replaced run.first run.last (cut (take (n - 0) out)) (chunks_now T)) (chunks_now T) (c.replace.ensures.answer ∙ can)
+      chunks = c.replace.ensures.chunks ∙ cond-true _ (replaced run.first run.last (cut (take (n - 0) out)) (chunks_now T)) (chunks_now T) (c.replace.ensures.done ∙ can)
           ∙ replaced_is T c.args.from c.args.to new c.requires.allowed run c.requires.is (take (n - 0) out) is;
       usable = size.usable;
       lent = λ z. record { slots = size.slot_count z; store = size.store_count z; readings = size.reading_count z };

@@ -20,7 +20,7 @@ loop-at-preserved g c =
     let next = c.min-next.result in
     let before : min at end ≡ at = omega arith in
     let behind : next ≡ min (at + 64) end = omega (arith, c.min-next.ensures) in
-    let more = block_counted c.args.tree.now c.args.from at next c.loop-at.block c.copy.new.out c.copy.result c.loop-at.count c.line_ends_of.result c.copy.ensures.answer c.copy.ensures.copied c.loop-at.invariant.forward (omega arith)
+    let more = block_counted c.args.tree.now c.args.from at next c.loop-at.block c.copy.new.out _ c.loop-at.count c.line_ends_of.result c.copy.ensures.done c.copy.ensures.copied c.loop-at.invariant.forward (omega arith)
     (omega (arith, c.bytes.ensures.is, c.min-end.ensures)) (omega (arith, c.min-next.array_long)) (c.loop-at.invariant.counted ∙ ap (λ n. line_ends (between c.args.from n text)) before) c.line_ends_of.ensures in
     record { forward = omega (arith, c.loop-at.invariant.forward); counted = more ∙ ap (λ n. line_ends (between c.args.from n text)) behind }
 
@@ -33,7 +33,7 @@ returns-2 g c =
     let next = c.min-next.result in
     let before : min at end ≡ at = omega arith in
     let behind : next ≡ min c.args.to (length text) = omega (arith, c.min-next.ensures, c.min-end.ensures, c.bytes.ensures.is) in
-    let more = block_counted c.args.tree.now c.args.from at next c.loop-at.block c.copy.new.out c.copy.result c.loop-at.count c.line_ends_of.result c.copy.ensures.answer c.copy.ensures.copied c.loop-at.invariant.forward (omega arith)
+    let more = block_counted c.args.tree.now c.args.from at next c.loop-at.block c.copy.new.out _ c.loop-at.count c.line_ends_of.result c.copy.ensures.done c.copy.ensures.copied c.loop-at.invariant.forward (omega arith)
     (omega (arith, c.bytes.ensures.is, c.min-end.ensures)) (omega (arith, c.min-next.array_long)) (c.loop-at.invariant.counted ∙ ap (λ n. line_ends (between c.args.from n text)) before) c.line_ends_of.ensures in
     more ∙ ap (λ n. line_ends (between c.args.from n text)) behind ∙ to_end text c.args.from c.args.to
 

@@ -20,41 +20,41 @@ use Rattle.load.proofs.loading.load.Goals as goal
 
 pub loop-piece-init : goal.loop-piece-init
 loop-piece-init g c =
-    let made = c.if-not-prepare.ensures in
+    let made = c.in-Ok.ensures in
     let whole : chunks_rest c.into_iter-piece-iterator.result ≡ c.args.text.now = cc in
     record {
       pieces = cc;
       so_far = subst (SoFar c.args.text.now (chunks_rest c.into_iter-piece-iterator.result) c.args.usable) (sym made.chunks) (rw whole (so_far_none c.args.text.now c.args.usable));
       usable = made.usable;
-      kept = made.keeps refl _;
+      kept = made.keeps _;
     }
 
 pub loop-piece-preserved : goal.loop-piece-preserved
 loop-piece-preserved g c =
-    let done = c.if-not-replace.ensures in
+    let done = c.in-Ok-replace.ensures in
     let loop = c.loop-piece.invariant in
     let next = c.in-Some.ensures.steps in
     record {
       pieces = next.0 ∙ loop.pieces;
-      so_far = so_far_more c.args.text.now (chunks_rest c.loop-piece.piece-iterator) (chunks_rest c.next.new.self) c.in-Some.piece.now c.args.usable c.chunks-end.result c.loop-piece.tree.memory.usable (chunks_now c.loop-piece.tree) loop.so_far next.1.0 (rw loop.pieces at next.1.1) next.1.2 c.chunks-end.ensures.is loop.usable _ done.chunks done.answer;
+      so_far = so_far_more c.args.text.now (chunks_rest c.loop-piece.piece-iterator) (chunks_rest c.next.new.self) c.in-Some.piece.now c.args.usable c.chunks-end.result c.loop-piece.tree.memory.usable (chunks_now c.loop-piece.tree) loop.so_far next.1.0 (rw loop.pieces at next.1.1) next.1.2 c.chunks-end.ensures.is loop.usable _ done.chunks done.done;
       usable = done.size.usable ∙ loop.usable;
       kept = done.keeps loop.kept;
     }
 
-pub returns-then-not-prepare : goal.returns-then-not-prepare
-returns-then-not-prepare g c =
+pub returns-in_default : goal.returns-in_default
+returns-in_default g c =
     let tree = c.new-tree.ensures in
     let room = room_is c.new-tree.result c.args.usable c.args.slots.now c.args.store.now c.args.readings.now tree.usable tree.slots tree.store tree.readings in
-    let none : roomy c.args.usable c.args.slots.now c.args.store.now c.args.readings.now ≡ false = sym room ∙ sym c.if-not-prepare.ensures.answer in
+    let none : roomy c.args.usable c.args.slots.now c.args.store.now c.args.readings.now ≡ false = sym room ∙ sym c.in_default.ensures.done in
     and_left _ _ none
 
-pub returns-then-not-replace : goal.returns-then-not-replace
-returns-then-not-replace g c =
+pub returns-in_default-replace : goal.returns-in_default-replace
+returns-in_default-replace g c =
     let text = c.args.text.now in
     let n = c.args.usable in
     let loop = c.loop-piece.invariant in
     let next = c.in-Some.ensures.steps in
-    let over = so_far_full text (chunks_rest c.loop-piece.piece-iterator) (chunks_rest c.next.new.self) c.in-Some.piece.now n c.chunks-end.result c.loop-piece.tree.memory.usable (chunks_now c.loop-piece.tree) loop.so_far next.1.0 (rw loop.pieces at next.1.1) next.1.2 c.chunks-end.ensures.is loop.usable c.if-not-replace.ensures.answer in
+    let over = so_far_full text (chunks_rest c.loop-piece.piece-iterator) (chunks_rest c.next.new.self) c.in-Some.piece.now n c.chunks-end.result c.loop-piece.tree.memory.usable (chunks_now c.loop-piece.tree) loop.so_far next.1.0 (rw loop.pieces at next.1.1) next.1.2 c.chunks-end.ensures.is loop.usable c.in_default-replace.ensures.done in
     and_right _ _ (lt-leb (needed (length text)) n over)
 
 pub returns : goal.returns
@@ -72,7 +72,7 @@ returns g c =
     let few = so_far_few text rest n chunks so_far all in
     let made = c.new-tree.ensures in
     let room = room_is c.new-tree.result n c.args.slots.now c.args.store.now c.args.readings.now made.usable made.slots made.store made.readings in
-    let can : roomy n c.args.slots.now c.args.store.now c.args.readings.now ≡ true = sym room ∙ sym c.if-not-prepare.ensures.answer in
+    let can : roomy n c.args.slots.now c.args.store.now c.args.readings.now ≡ true = sym room ∙ sym c.in-Ok.ensures.done in
     let enough : needed (length text) ≤ n = omega (arith, few, so_far.enough) in
     let μ = pair_measure (walk_measure a) (pair_measure place_measure blank_measure) in
     let total : length (joined chunks) ≤ c.bytes-bytes.result = omega (arith, c.bytes-bytes.ensures.is) in

@@ -1,4 +1,4 @@
-use Rattle.std.proofs.Common.{ℕ, ◌-◌, length, take, refl, ap, ◌∙◌, arith, length-take}
+use Rattle.std.proofs.Common.{ℕ, ◌-◌, refl, ap, ◌∙◌, arith, length-take}
 use Rattle.search.specs.Forwards.{shifted}
 use Rattle.questions.specs.Under.{text_under}
 use Rattle.seek.proofs.Ascent.{Right, right_sought, right_none, stopped_right, own_fits, stopped_own, found_all}

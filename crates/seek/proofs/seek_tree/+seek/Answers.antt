@@ -1,4 +1,4 @@
-use Rattle.std.proofs.Common.{◌-◌, false, length, drop, sym, refl, ap, ◌∙◌, arith, length-drop}
+use Rattle.std.proofs.Common.{◌-◌, false, drop, sym, refl, ap, ◌∙◌, arith, length-drop}
 use Rattle.search.specs.Forwards.{shifted, stop}
 use Rattle.search.proofs.Forwards.{stop_through}
 use Rattle.questions.specs.Under.{text_under}
