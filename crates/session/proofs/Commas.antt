@@ -1,8 +1,7 @@
 -- A word is cut at its first comma.
-use Rattle.std.proofs.Common.{◌≡◌, ◌+◌, ◌==◌, ◌<◌, ℕ, cond, Bool, true, false, not, List, [], ◌∷◌, length, take, drop, Some, None, Option, option_map, nat_lt, refl, ap, sym, ◌∙◌, ⊎_elim, arith}
+use Rattle.std.proofs.Common.{◌≡◌, ◌+◌, ◌==◌, ℕ, cond, Bool, true, false, not, List, [], ◌∷◌, length, take, drop, Some, None, Option, option_map, nat_lt, refl, ap, ◌∙◌, arith}
 use Rattle.std.specs.List.{position, position_or_len}
 use Rattle.std.proofs.lemmas.Bool.Decides.{nat_tests}
-use Rattle.std.proofs.lemmas.Grind.{common_steps}
 use Rattle.notation.proofs.Cuts.{taken_next}
 use Rattle.session.specs.Records.{comma_front, comma_rest}
 
