@@ -1,4 +1,5 @@
 // The depth of a search for a partner, over a byte of a role and over a text by the brackets that it leaves.
+// Each direction stays a match of its own: to turn a role round takes the same three arms.
 ghost use Rattle.std.specs.Prelude.{◌≡◌};
 ghost use Rattle.locate.specs.Depth.{deeper, shallower, depth_ahead, depth_behind, depth_over, over_ahead, over_behind};
 
