@@ -14,6 +14,7 @@ pub mod queries;
 pub mod script;
 pub mod untyped;
 
+// It holds no meter: each call is given one, and may be given another.
 #[derive(Drop)]
 pub struct Document<'a, R> {
     tree: ChunkTree<'a, R>,

@@ -45,7 +45,7 @@ pub enum Layer {
 }
 
 impl Refusal {
-    // The number under which the rules list the reason.
+    // The number under which the rules list the reason. It is told to hosts; here nothing goes by it.
     pub fn number(self) -> u8
         ensures { result ≡ number_of self }
     {
@@ -91,7 +91,7 @@ impl Refusal {
         }
     }
 
-    // The place that the refusal carries: 0 where there is none to tell.
+    // The place that the refusal carries. No Option: the rules write 0 where there is none to tell.
     pub fn place(self) -> u64
         ensures { result ≡ place_of self }
     {

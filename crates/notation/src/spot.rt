@@ -21,6 +21,7 @@ pub enum Spot {
 
 #[derive(Clone, Copy)]
 pub enum Step {
+    // No Option around the other two: each arm of a step would say `Some(Step::..)`.
     Wrong,
     To(Spot),
     // A byte is read.

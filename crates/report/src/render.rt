@@ -1,4 +1,5 @@
 // Writes a text and its colours in a view: digits, or the text in a terminal's colours.
+// Output, view and the class shown stay parameters: in a struct each clause would say `self.new.out.items` for `out.new.items`.
 ghost use Rattle.std.specs.Prelude.{◌≡◌, ◌%◌, ◌<◌, ◌++◌, IfOk, OnOk};
 ghost use Rattle.report.specs.Rendered.{hex_digit, digit_of, switch_to, switch, visible as visible_of, escape_sequence, opening as opening_of, piece, next_shown, closing as closing_of, rendered};
 

@@ -6,6 +6,6 @@ pub struct Stop<A> {
     pub passed: usize,
     // What it kept behind them.
     pub at: A,
-    // Whether it stopped there, before a byte, or ran out of bytes.
+    // Whether it stopped there, before a byte, or ran out of bytes. No enum of the two: what is above is told in both cases.
     pub stopped: bool,
 }

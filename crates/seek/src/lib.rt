@@ -1,4 +1,5 @@
 // Searches through a tree's text, over whole subtrees by their readings: from a place on, and from a place back.
+// Place, state and what is kept stay parameters: each call goes on with others, so a struct would be written out at each.
 
 #![tactic(auto)]
 

@@ -1,5 +1,5 @@
 // Slots in lent memory: what a slot and a memory are, what it means that memory holds a tree, and the laws of that.
-// There is no code here; the crates that link, exchange and question slots cite the definitions and the laws.
+// The crates that link, exchange and question slots cite the definitions and the laws.
 
 #![tactic(auto)]
 

@@ -77,6 +77,7 @@ impl<G: Grammar> Walk<G> {
         ensures { result ≡ rows (λ s. entry (G.Grammar.meaning self.now.grammar) s bytes.now) }
     {
         let mut entries = still_rows();
+        // Over the states, which are numbers: there is no list to go through.
         for s in 0..self.grammar.count() {
             entries[s as usize] = self.walk_from(s, bytes);
         }
