@@ -12,7 +12,7 @@ pub struct SizedSpot {
 }
 
 impl SizedSpot {
-    // The same place without the length.
+    // The same place without the length. A method and no From: `Spot::from(sized)` would say less.
     pub fn spot(self) -> Spot
         ensures { result ≡ spot_of self }
     {

@@ -14,7 +14,8 @@ pub mod queries;
 pub mod script;
 pub mod untyped;
 
-// It holds no meter: each call is given one, and may be given another.
+// It holds no meter: each call is given one, and may be given another. A range is two numbers, as in the rules: what is no range of
+// the text is given too, and std's Range is not Copy.
 #[derive(Drop)]
 pub struct Document<'a, R> {
     tree: ChunkTree<'a, R>,

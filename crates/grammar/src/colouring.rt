@@ -1,4 +1,5 @@
 // Colouring and walking a run of bytes from a state: the leaves that every call uses.
+// Grammar and state stay two parameters: the one never changes, the other with each byte.
 ghost use Rattle.std.specs.Prelude.{◌≡◌, ◌++◌, length, take, drop};
 ghost use Rattle.automaton.specs.Walk.{walk as walk_from, colours_from};
 

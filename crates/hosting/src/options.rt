@@ -53,6 +53,7 @@ pub struct Options {
     awaited: Option<Setting>,
 }
 
+// An Option and no FromStr: a word that names no setting is a pile or a number, and no error.
 fn setting_named(word: &str) -> Option<Setting>
     ensures { result ≡ setting_of word.now }
 {

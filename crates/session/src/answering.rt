@@ -8,6 +8,7 @@ use model::{Change, Layer, Refusal};
 use std::alloc::{AllocError, Global};
 use std::fmt;
 
+// No Display for a type of another crate.
 fn layer_name(layer: Layer) -> &'static str
     ensures { result.now ≡ name_of_layer layer }
 {
@@ -33,6 +34,7 @@ impl fmt::Display for RefusalWords {
     }
 }
 
+// A bool has a Display of its own, which says other words.
 fn yes_no(is: bool) -> &'static str
     ensures { result.now ≡ yes_or_no is }
 {

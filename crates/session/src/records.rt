@@ -38,6 +38,7 @@ pub(crate) fn records(heap: Global, left: &[u8]) -> Result<Option<Vec<Replacemen
 {
     let mut out = Vec::new(heap);
     let mut left = left;
+    // From word to word: an iterator of words would be a type whose contract says the same.
     while !is_over(left) {
         let Some(next) = record(word(left)) else {
             return Ok(None);

@@ -68,6 +68,7 @@ fn main(rt: HostRuntime) -> anyhow::Result<()> {
     let mut text = Vec::new(rt.alloc());
     rt.stdin().read_to_end(&mut text)?;
     let mut left = text.as_slice();
+    // From session to session: each ends where the next begins, and no byte between them could be split at.
     while !left.is_empty() {
         let end = session_length(left);
         run(&rt, &left[..end])?;
