@@ -35,10 +35,9 @@ fn text_of(round: u32) -> [u8; 64] {
 
 // The end of a walk in a reading, so that the reading is used.
 fn end_of(reading: &Option<Passage>, round: u32) -> u8 {
-    match reading {
-        Some(passage) => passage.entries[round as usize % 18].end,
-        None => 0,
-    }
+    reading
+        .as_ref()
+        .map_or(0, |passage| passage.entries[round as usize % 18].end)
 }
 
 fn time_walk(rt: &HostRuntime) -> io::Result<Timed<u8>> {
