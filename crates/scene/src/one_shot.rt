@@ -1,9 +1,9 @@
 // A text read to its end and reported on: its colours, its extent, what a tree says of it.
-use anyhow::anyhow;
+use crate::refusal::{Refusal, told};
 use grammar::Grammar;
 use hosting::{Work, with_pile};
 use load::{MOST, load_text, loaded_text, slots_named};
-use report::{NAMES, Pile, View, report_of, summary_of, summary_text};
+use report::{Pile, View, report_of, summary_of, summary_text};
 use std::io::{Read, Write};
 
 // What is to be written of the text.
@@ -16,6 +16,7 @@ pub enum Task {
 }
 
 impl Task {
+    // An Option and no FromStr: a word that names no task is a pile or a number, and no error.
     pub fn named(option: &str) -> Option<Task> {
         match option {
             "--colour" => Some(Task::Colour(View::Digits)),
@@ -25,48 +26,29 @@ impl Task {
             _ => None,
         }
     }
-}
 
-fn write_task<G: Grammar + Copy>(
-    rt: &HostRuntime,
-    grammar: &G,
-    task: Task,
-    text: &[u8],
-) -> anyhow::Result<()> {
-    let heap = rt.alloc();
-    match task {
-        Task::Colour(view) => rt
-            .stdout()
-            .write_all(&report_of(heap, grammar, view, text)?)?,
-        Task::Measure => rt.println(summary_text(heap, summary_of(grammar, text))?)?,
-        Task::Tree(slots) => {
-            let Some(loaded) = load_text(heap, grammar, slots, text)? else {
-                eprintln!(rt; "scene: the text needs more than {slots} slots of 64 bytes each")?;
-                return Err(anyhow!("a text that does not fit"));
-            };
-            rt.println(loaded_text(heap, loaded)?)?
+    fn write<G: Grammar + Copy>(
+        self,
+        rt: &HostRuntime,
+        grammar: &G,
+        text: &[u8],
+    ) -> anyhow::Result<()> {
+        let heap = rt.alloc();
+        match self {
+            Task::Colour(view) => rt
+                .stdout()
+                .write_all(&report_of(heap, grammar, view, text)?)?,
+            Task::Measure => rt.println(summary_text(heap, summary_of(grammar, text))?)?,
+            Task::Tree(slots) => {
+                let loaded = load_text(heap, grammar, slots, text)?.ok_or(Refusal::TooLong(slots));
+                rt.println(loaded_text(heap, told(rt, loaded)?)?)?
+            }
         }
+        Ok(())
     }
-    Ok(())
 }
 
-// Reads the text and writes what is asked for, one after the other.
-fn run<G: Grammar + Copy>(rt: &HostRuntime, grammar: &G, tasks: &[Task]) -> anyhow::Result<()> {
-    if grammar.count() == 0 {
-        eprintln!(rt;
-            "scene: this pile needs more than 64 states and cannot be used; the piles are {NAMES}"
-        )?;
-        return Err(anyhow!("a pile that cannot be used"));
-    }
-    let mut text = Vec::new(rt.alloc());
-    rt.stdin().read_to_end(&mut text)?;
-    for task in tasks {
-        write_task(rt, grammar, *task, &text)?;
-    }
-    Ok(())
-}
-
-// What is to be done under a pile.
+// What is to be written under a pile, one after the other.
 #[derive(Drop)]
 struct OneShot<'r, 't> {
     rt: &'r HostRuntime,
@@ -80,31 +62,34 @@ impl Work for OneShot<'_, '_> {
     ghost done = { λ _ _ _ _. Unit {0} };
 
     fn run<G: Grammar + Copy>(&mut self, grammar: &G) -> anyhow::Result<()> {
-        run(self.rt, grammar, self.tasks)
+        if grammar.count() == 0 {
+            return told(self.rt, Err(Refusal::UnusablePile));
+        }
+        let mut text = Vec::new(self.rt.alloc());
+        self.rt.stdin().read_to_end(&mut text)?;
+        for task in self.tasks {
+            task.write(self.rt, grammar, &text)?;
+        }
+        Ok(())
     }
 }
 
-// The slots that a word behind `--tree` asks for; nothing where it is no number.
-fn slots_asked(rt: &HostRuntime, word: &str) -> anyhow::Result<Option<u16>> {
-    let Some(b'0'..=b'9') = word.as_bytes().first() else {
-        return Ok(None);
-    };
-    let Some(slots) = slots_named(word) else {
-        eprintln!(rt; "scene: a tree has 1 to {MOST} slots, and not {word}")?;
-        return Err(anyhow!("a tree of another size"));
-    };
-    Ok(Some(slots))
+fn begins_with_digit(word: &str) -> bool {
+    word.as_bytes()
+        .first()
+        .is_some_and(|byte| byte.is_ascii_digit())
+}
+
+// The slots that a number behind `--tree` asks for.
+fn slots_asked(word: &str) -> Result<u16, Refusal<'_>> {
+    slots_named(word).ok_or(Refusal::TreeSize(word))
 }
 
 // The pile that a word names, where none was named before.
-fn pile_asked(rt: &HostRuntime, before: Option<Pile>, word: &str) -> anyhow::Result<Pile> {
-    let Some(named) = Pile::named(word) else {
-        eprintln!(rt; "scene: no pile is called {word}; the piles are {NAMES}")?;
-        return Err(anyhow!("an unknown pile"));
-    };
+fn pile_asked(before: Option<Pile>, word: &str) -> Result<Pile, Refusal<'_>> {
+    let named = Pile::named(word).ok_or(Refusal::UnknownPile(word))?;
     if before.is_some() {
-        eprintln!(rt; "scene: one pile at a time; the piles are {NAMES}")?;
-        return Err(anyhow!("more than one pile"));
+        return Err(Refusal::SecondPile);
     }
     Ok(named)
 }
@@ -113,22 +98,19 @@ fn pile_asked(rt: &HostRuntime, before: Option<Pile>, word: &str) -> anyhow::Res
 pub fn report_on_input(rt: &HostRuntime, words: &[String]) -> anyhow::Result<()> {
     let mut pile = None;
     let mut tasks = Vec::new(rt.alloc());
-    let mut behind_tree = false;
-    for word in words {
+    let mut words = words.iter().peekable();
+    while let Some(word) = words.next() {
         let word = word.as_str();
-        if behind_tree {
-            behind_tree = false;
-            if let Some(slots) = slots_asked(rt, word)? {
-                tasks.pop();
+        match Task::named(word) {
+            Some(Task::Tree(most)) => {
+                let slots = match words.next_if(|next| begins_with_digit(next.as_str())) {
+                    Some(number) => told(rt, slots_asked(number.as_str()))?,
+                    None => most,
+                };
                 tasks.push(Task::Tree(slots))?;
-                continue;
             }
-        }
-        if let Some(task) = Task::named(word) {
-            behind_tree = matches!(task, Task::Tree(_));
-            tasks.push(task)?;
-        } else {
-            pile = Some(pile_asked(rt, pile, word)?);
+            Some(task) => tasks.push(task)?,
+            None => pile = Some(told(rt, pile_asked(pile, word))?),
         }
     }
     let mut work = OneShot { rt, tasks: &tasks };
