@@ -1,5 +1,5 @@
-// A host with one document: the meter that it works by, and the memory that it lends to the document's calls.
-use document::{Desk, Document};
+// A host: the meter that it works by, and the memory that it lends to the calls of a document.
+use document::Desk;
 use editing::Readings;
 use meter::Blank;
 use std::alloc::Global;
@@ -9,6 +9,5 @@ use walks::DocumentMeter;
 pub struct Host<'a, G> {
     pub heap: Global,
     pub meter: &'a DocumentMeter<G, Blank>,
-    pub document: Document<'a, Readings<()>>,
     pub desk: Desk<'a, Readings<()>>,
 }

@@ -1,14 +1,15 @@
 // What a host does about a request, and what it writes as the answer.
 ghost use Rattle.std.specs.Prelude.{◌≡◌, ◌-◌, min, take, length, unwrap_or, option_map, IfOk, MatchOption, IsTrue};
 ghost use Rattle.document.specs.Content.{Keeps};
+ghost use Rattle.document.specs.Snapshot.{seen};
 ghost use Rattle.editing.specs.Content.{document_measure};
 ghost use Rattle.measure.specs.Blank.{blank_measure};
 ghost use Rattle.session.specs.Asked.{asked as asked_by};
 ghost use Rattle.hosting.specs.Replies.{IsCall, IsNoCall, digits, written_of, Replies};
-ghost use Rattle.hosting.specs.Host.{here, SameHost};
+ghost use Rattle.hosting.specs.Host.{SameHost};
 
 use crate::host::Host;
-use document::{Answer, Call, Desk};
+use document::{Answer, Call, Desk, Document};
 use editing::Readings;
 use grammar::Grammar;
 use model::Change;
@@ -121,22 +122,26 @@ fn shown(
 }
 
 impl<G: Grammar> Host<'_, G> {
-    // Carries a request out; gives what is to be written, nothing for a line that is passed over.
-    pub fn reply(&mut self, request: &Request) -> Result<Option<Vec<u8>>, AllocError>
-        ensures replies { let a = G.meaning self.old.meter.now.first.grammar in let μ = document_measure a blank_measure in Keeps self.old.document μ → IfOk result (λ out. Replies a μ (asked_by request.now) (here self.old) (here self.new) (option_map (λ v. v.items) out)) }
-        ensures keeps { let μ = document_measure (G.meaning self.old.meter.now.first.grammar) blank_measure in Keeps self.old.document μ → Keeps self.new.document μ }
+    // Carries a request out on a document; gives what is to be written, nothing for a line that is passed over.
+    pub fn reply(
+        &mut self,
+        document: &mut Document<Readings<()>>,
+        request: &Request,
+    ) -> Result<Option<Vec<u8>>, AllocError>
+        ensures replies { let a = G.meaning self.old.meter.now.first.grammar in let μ = document_measure a blank_measure in Keeps document.old μ → IfOk result (λ out. Replies a μ (asked_by request.now) (seen document.old self.old.desk) (seen document.new self.new.desk) (option_map (λ v. v.items) out)) }
+        ensures keeps { let μ = document_measure (G.meaning self.old.meter.now.first.grammar) blank_measure in Keeps document.old μ → Keeps document.new μ }
         ensures same { SameHost self.old self.new }
     {
         let states = self.meter.first.grammar.count();
-        let standing = self.document.standing();
+        let standing = document.standing();
         match call_of(states, standing, self.desk.buffer.len(), request) {
             Some(call) => {
-                let answer = self.document.perform(self.meter, &mut self.desk, call);
+                let answer = document.perform(self.meter, &mut self.desk, call);
                 Ok(Some(answer_of(self.heap, call, answer, &self.desk)?))
             }
             None => match request {
                 Request::Screen(asked) => {
-                    let (bytes, _, _) = self.document.size();
+                    let (bytes, _, _) = document.size();
                     Ok(Some(shown(self.heap, &self.desk, *asked, bytes)?))
                 }
                 _ => Ok(None),

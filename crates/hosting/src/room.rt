@@ -41,7 +41,7 @@ impl<R: BufRead, W: Write> Work for Session<'_, '_, '_, R, W> {
         let mut screen = vec![in heap; 0; self.options.screen()]?;
         let mut buffer = vec![in heap; 0; BUFFER]?;
         let mut reading = UNREAD;
-        let document = Document::new(&mut slots, &mut store, &mut readings);
+        let mut document = Document::new(&mut slots, &mut store, &mut readings);
         let desk = Desk {
             screen: &mut screen,
             buffer: &mut buffer,
@@ -50,10 +50,9 @@ impl<R: BufRead, W: Write> Work for Session<'_, '_, '_, R, W> {
         let mut host = Host {
             heap,
             meter: &meter,
-            document,
             desk,
         };
-        host.converse(self.lines, self.out)
+        host.converse(&mut document, self.lines, self.out)
     }
 }
 

@@ -1,7 +1,8 @@
 use Rattle.document.specs.Content.{Keeps}
+use Rattle.document.specs.Snapshot.{seen}
 use Rattle.editing.specs.Content.{document_measure}
 use Rattle.measure.specs.Blank.{blank_measure}
-use Rattle.hosting.specs.Host.{here, SameHost}
+use Rattle.hosting.specs.Host.{SameHost}
 use Rattle.hosting.proofs.Conversing.{Going}
 use Rattle.hosting.proofs.host.Host.converse.Given as goal
 
@@ -12,4 +13,4 @@ invariant-loop-number g l =
     let a = g.G.Grammar.meaning first.meter.now.first.grammar in
     let μ = document_measure a blank_measure in
     SameHost first l.self
-    × (Keeps first.document μ → Keeps l.self.document μ × Going a μ (g.R.Read.remaining l.initial.lines) (g.R.Read.remaining l.lines) (g.W.Write.contents l.initial.out) (g.W.Write.contents l.out) (here first) (here l.self) l.number l.readable)
+    × (Keeps l.initial.document μ → Keeps l.document μ × Going a μ (g.R.Read.remaining l.initial.lines) (g.R.Read.remaining l.lines) (g.W.Write.contents l.initial.out) (g.W.Write.contents l.out) (seen l.initial.document first.desk) (seen l.document l.self.desk) l.number l.readable)

@@ -14,7 +14,7 @@ pub returns-in_ok-answer_of-in-Some-clause-replies : goal.returns-in_ok-answer_o
 returns-in_ok-answer_of-in-Some-clause-replies g c keeps =
     let self = c.args.self.now in
     let a = g.G.Grammar.meaning self.meter.now.first.grammar in
-    let m = model_of self.document in
+    let m = model_of c.args.document.now in
     let cells = length self.desk.buffer.now in
     let call = c.in-Some.call in
     let r = asked c.args.request.now in
