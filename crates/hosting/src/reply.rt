@@ -121,7 +121,7 @@ fn shown(
 }
 
 impl<G: Grammar> Host<'_, G> {
-    // Carries a request out on a document, with what is lent to its calls; gives what is to be written, nothing for a line that is passed over.
+    // Carries a request out on a document that is lent; gives what is to be written, nothing for a line that is passed over.
     pub fn reply(
         &self,
         document: &mut Document<Readings<()>>,

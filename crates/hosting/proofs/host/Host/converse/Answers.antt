@@ -23,9 +23,6 @@ loop-number-preserved g c =
           ),
     )
 
-pub returns-in_err-readable-clause-keeps : goal.returns-in_err-readable-clause-keeps
-returns-in_err-readable-clause-keeps g c keeps = c.in_err-readable.ensures.keeps (c.loop-number.invariant.1 keeps).0
-
 pub returns-clause-conversed : goal.returns-clause-conversed
 returns-clause-conversed g c =
     let a = g.G.Grammar.meaning c.args.self.now.meter.now.first.grammar in
