@@ -2,7 +2,6 @@
 pub mod Piles
 pub mod Lent
 pub mod Replies
-pub mod Host
 pub mod Laws
 pub mod Conversing
 pub mod Hosted

@@ -2,15 +2,14 @@
 ghost use Rattle.std.specs.Prelude.{◌≡◌, is_ok, IfOk, OnOk, option_map, string_bytes};
 ghost use Rattle.std.specs.Io.KnownBytes.{Appends};
 ghost use Rattle.document.specs.Content.{Keeps};
-ghost use Rattle.document.specs.Snapshot.{seen};
+ghost use Rattle.document.specs.Snapshot.{seen, SameDesk};
 ghost use Rattle.editing.specs.Content.{document_measure};
 ghost use Rattle.measure.specs.Blank.{blank_measure};
 ghost use Rattle.session.specs.Request.{request_of};
 ghost use Rattle.hosting.specs.Conversing.{problem_line, answer_line as line_of_answer, AnswersLine, ReadsNext, Conversation};
-ghost use Rattle.hosting.specs.Host.{SameHost};
 
 use crate::host::Host;
-use document::Document;
+use document::{Desk, Document};
 use editing::Readings;
 use grammar::Grammar;
 use session::{Problem, read_request};
@@ -55,20 +54,21 @@ fn read_line<R: BufRead>(lines: &mut R, line: &mut Vec<u8>) -> Result<bool>
 impl<G: Grammar> Host<'_, G> {
     // Carries out one line, and says whether it could be read.
     fn answer_line<W: Write>(
-        &mut self,
+        &self,
         document: &mut Document<Readings<()>>,
+        desk: &mut Desk<Readings<()>>,
         number: u64,
         line: &[u8],
         out: &mut W,
     ) -> Result<bool>
         ensures readable { IfOk result (λ readable. readable ≡ is_ok (request_of line.now)) }
-        ensures answers { let a = G.meaning self.old.meter.now.first.grammar in let μ = document_measure a blank_measure in Keeps document.old μ → OnOk result (AnswersLine a μ number (request_of line.now) (seen document.old self.old.desk) (seen document.new self.new.desk) (W.contents out.old) (W.contents out.new)) }
-        ensures keeps { let μ = document_measure (G.meaning self.old.meter.now.first.grammar) blank_measure in Keeps document.old μ → Keeps document.new μ }
-        ensures same { SameHost self.old self.new }
+        ensures answers { let a = G.meaning self.now.meter.now.first.grammar in let μ = document_measure a blank_measure in Keeps document.old μ → OnOk result (AnswersLine a μ number (request_of line.now) (seen document.old desk.old) (seen document.new desk.new) (W.contents out.old) (W.contents out.new)) }
+        ensures keeps { let μ = document_measure (G.meaning self.now.meter.now.first.grammar) blank_measure in Keeps document.old μ → Keeps document.new μ }
+        ensures lent { SameDesk desk.old desk.new }
     {
         match read_request(self.heap, line)? {
             Ok(request) => {
-                let answer = self.reply(document, &request)?;
+                let answer = self.reply(document, desk, &request)?;
                 write_answer(answer, out)?;
                 Ok(true)
             }
@@ -81,14 +81,15 @@ impl<G: Grammar> Host<'_, G> {
 
     // Answers all lines, and says whether every one could be read.
     pub fn converse<R: BufRead, W: Write>(
-        &mut self,
+        &self,
         document: &mut Document<Readings<()>>,
+        desk: &mut Desk<Readings<()>>,
         lines: &mut R,
         out: &mut W,
     ) -> Result<bool>
-        ensures conversed { let a = G.meaning self.old.meter.now.first.grammar in let μ = document_measure a blank_measure in Keeps document.old μ → IfOk result (λ readable. Conversation a μ (R.remaining lines.old) (W.contents out.old) (W.contents out.new) (seen document.old self.old.desk) (seen document.new self.new.desk) readable) }
-        ensures keeps { let μ = document_measure (G.meaning self.old.meter.now.first.grammar) blank_measure in Keeps document.old μ → Keeps document.new μ }
-        ensures same { SameHost self.old self.new }
+        ensures conversed { let a = G.meaning self.now.meter.now.first.grammar in let μ = document_measure a blank_measure in Keeps document.old μ → IfOk result (λ readable. Conversation a μ (R.remaining lines.old) (W.contents out.old) (W.contents out.new) (seen document.old desk.old) (seen document.new desk.new) readable) }
+        ensures keeps { let μ = document_measure (G.meaning self.now.meter.now.first.grammar) blank_measure in Keeps document.old μ → Keeps document.new μ }
+        ensures lent { SameDesk desk.old desk.new }
     {
         let mut readable = true;
         let mut line = Vec::new(self.heap);
@@ -96,7 +97,7 @@ impl<G: Grammar> Host<'_, G> {
             if !read_line(lines, &mut line)? {
                 break;
             }
-            readable &= self.answer_line(document, number, &line, out)?;
+            readable &= self.answer_line(document, desk, number, &line, out)?;
         }
         Ok(readable)
     }

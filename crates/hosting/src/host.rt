@@ -1,6 +1,4 @@
-// A host: the meter that it works by, and the memory that it lends to the calls of a document.
-use document::Desk;
-use editing::Readings;
+// A host: the heap that it writes its answers on, and the meter that it works by.
 use meter::Blank;
 use std::alloc::Global;
 use walks::DocumentMeter;
@@ -9,5 +7,4 @@ use walks::DocumentMeter;
 pub struct Host<'a, G> {
     pub heap: Global,
     pub meter: &'a DocumentMeter<G, Blank>,
-    pub desk: Desk<'a, Readings<()>>,
 }

@@ -1,12 +1,11 @@
 // What a host does about a request, and what it writes as the answer.
 ghost use Rattle.std.specs.Prelude.{◌≡◌, ◌-◌, min, take, length, unwrap_or, option_map, IfOk, MatchOption, IsTrue};
 ghost use Rattle.document.specs.Content.{Keeps};
-ghost use Rattle.document.specs.Snapshot.{seen};
+ghost use Rattle.document.specs.Snapshot.{seen, SameDesk};
 ghost use Rattle.editing.specs.Content.{document_measure};
 ghost use Rattle.measure.specs.Blank.{blank_measure};
 ghost use Rattle.session.specs.Asked.{asked as asked_by};
 ghost use Rattle.hosting.specs.Replies.{IsCall, IsNoCall, digits, written_of, Replies};
-ghost use Rattle.hosting.specs.Host.{SameHost};
 
 use crate::host::Host;
 use document::{Answer, Call, Desk, Document};
@@ -122,27 +121,28 @@ fn shown(
 }
 
 impl<G: Grammar> Host<'_, G> {
-    // Carries a request out on a document; gives what is to be written, nothing for a line that is passed over.
+    // Carries a request out on a document that is lent; gives what is to be written, nothing for a line that is passed over.
     pub fn reply(
-        &mut self,
+        &self,
         document: &mut Document<Readings<()>>,
+        desk: &mut Desk<Readings<()>>,
         request: &Request,
     ) -> Result<Option<Vec<u8>>, AllocError>
-        ensures replies { let a = G.meaning self.old.meter.now.first.grammar in let μ = document_measure a blank_measure in Keeps document.old μ → IfOk result (λ out. Replies a μ (asked_by request.now) (seen document.old self.old.desk) (seen document.new self.new.desk) (option_map (λ v. v.items) out)) }
-        ensures keeps { let μ = document_measure (G.meaning self.old.meter.now.first.grammar) blank_measure in Keeps document.old μ → Keeps document.new μ }
-        ensures same { SameHost self.old self.new }
+        ensures replies { let a = G.meaning self.now.meter.now.first.grammar in let μ = document_measure a blank_measure in Keeps document.old μ → IfOk result (λ out. Replies a μ (asked_by request.now) (seen document.old desk.old) (seen document.new desk.new) (option_map (λ v. v.items) out)) }
+        ensures keeps { let μ = document_measure (G.meaning self.now.meter.now.first.grammar) blank_measure in Keeps document.old μ → Keeps document.new μ }
+        ensures lent { SameDesk desk.old desk.new }
     {
         let states = self.meter.first.grammar.count();
         let standing = document.standing();
-        match call_of(states, standing, self.desk.buffer.len(), request) {
+        match call_of(states, standing, desk.buffer.len(), request) {
             Some(call) => {
-                let answer = document.perform(self.meter, &mut self.desk, call);
-                Ok(Some(answer_of(self.heap, call, answer, &self.desk)?))
+                let answer = document.perform(self.meter, desk, call);
+                Ok(Some(answer_of(self.heap, call, answer, desk)?))
             }
             None => match request {
                 Request::Screen(asked) => {
                     let (bytes, _, _) = document.size();
-                    Ok(Some(shown(self.heap, &self.desk, *asked, bytes)?))
+                    Ok(Some(shown(self.heap, desk, *asked, bytes)?))
                 }
                 _ => Ok(None),
             },

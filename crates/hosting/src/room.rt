@@ -42,17 +42,16 @@ impl<R: BufRead, W: Write> Work for Session<'_, '_, '_, R, W> {
         let mut buffer = vec![in heap; 0; BUFFER]?;
         let mut reading = UNREAD;
         let mut document = Document::new(&mut slots, &mut store, &mut readings);
-        let desk = Desk {
+        let mut desk = Desk {
             screen: &mut screen,
             buffer: &mut buffer,
             reading: &mut reading,
         };
-        let mut host = Host {
+        let host = Host {
             heap,
             meter: &meter,
-            desk,
         };
-        host.converse(&mut document, self.lines, self.out)
+        host.converse(&mut document, &mut desk, self.lines, self.out)
     }
 }
 
