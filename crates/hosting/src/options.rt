@@ -71,7 +71,8 @@ fn pile_named(word: &str) -> Option<Pile>
     Pile::named(word)
 }
 
-fn begins_with_digit(word: &str) -> bool
+// Whether a word is meant as a number.
+pub fn begins_with_digit(word: &str) -> bool
     ensures { result ≡ begins_so word.now }
 {
     word.as_bytes()

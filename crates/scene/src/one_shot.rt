@@ -1,7 +1,7 @@
 // A text read to its end and reported on: its colours, its extent, what a tree says of it.
 use crate::refusal::{Refusal, told};
 use grammar::Grammar;
-use hosting::{Work, with_pile};
+use hosting::{Work, begins_with_digit, with_pile};
 use load::{MOST, load_text, loaded_text, slots_named};
 use report::{Pile, View, report_of, summary_of, summary_text};
 use std::io::{Read, Write};
@@ -72,12 +72,6 @@ impl Work for OneShot<'_, '_> {
         }
         Ok(())
     }
-}
-
-fn begins_with_digit(word: &str) -> bool {
-    word.as_bytes()
-        .first()
-        .is_some_and(|byte| byte.is_ascii_digit())
 }
 
 // The slots that a number behind `--tree` asks for.
