@@ -8,7 +8,6 @@ use Rattle.slots.specs.declared.memory.Memory.{Memory}
 use Rattle.slots.specs.declared.slot.Slot.{Slot}
 use Rattle.slots.specs.Claim.{kept}
 use Rattle.slots.specs.Holds.{Holds}
-use Rattle.slots.specs.Split.{Held}
 use Rattle.slots.specs.Sound.{tree_of, chunks_in, Kept}
 use Rattle.slots.specs.View.{size_of, chunk_of, chunks_of, text_of}
 use Rattle.slots.proofs.Joining.{node_higher}

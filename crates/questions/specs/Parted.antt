@@ -1,5 +1,5 @@
 -- A subtree taken apart at its top slot: what lies on the left, the slot's own chunk with its reading, what lies on the right.
-use Rattle.std.specs.Prelude.{◌≡◌, ℕ, ◌<◌, ◌≤◌, List, [], ◌∷◌, ◌++◌, length, Some, None, Option}
+use Rattle.std.specs.Prelude.{◌≡◌, ◌<◌, ◌≤◌, [], ◌∷◌, ◌++◌, length, Some, None, Option}
 use Rattle.std.specs.Borrow.{Bor}
 use Rattle.measure.specs.Measure.{Measure, reading}
 use Rattle.chunks.specs.Tree.{height}

@@ -5,6 +5,7 @@ use slots::memory::Memory;
 use std::alloc::AllocError;
 
 pub mod copying;
+pub mod narrowing;
 pub mod opening;
 pub mod ranges;
 pub mod same;

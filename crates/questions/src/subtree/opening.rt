@@ -1,8 +1,10 @@
 // What memory says of a subtree: how large it is, the reading kept of it, its parts; and a range cut into those of the parts.
-ghost use Rattle.std.specs.Prelude.{◌≡◌, ℕ, ◌≤◌, length};
-ghost use Rattle.slots.specs.Sound.{Sound, Kept, tree_of, chunks_in};
+ghost use Rattle.std.specs.Prelude.{All, ◌≡◌, ℕ, ◌≤◌, length};
+ghost use Rattle.slots.specs.Sound.{Kept, tree_of, chunks_in};
 ghost use Rattle.measure.specs.Measure.{Measure};
-ghost use Rattle.chunks.specs.Tree.{height as height_of};
+ghost use Rattle.chunks.specs.Tree.{Balanced, height as height_of};
+ghost use Rattle.chunks.specs.Cut.{Chunk};
+ghost use Rattle.questions.specs.Leads.{Leads};
 ghost use Rattle.questions.specs.Under.{tree_under, chunks_under, text_under, KeptUnder};
 ghost use Rattle.questions.specs.Spans.{behind};
 ghost use Rattle.questions.specs.Parted.{Parted, KeptAs};
@@ -14,9 +16,10 @@ use slots::memory::Memory;
 use slots::slot::Extent;
 
 impl<'m, 'a, R: Copy> Subtree<'m, 'a, R> {
-    // The tree that memory holds.
-    pub fn whole(memory: &'m Memory<'a, R>, link: Option<u16>) -> Subtree<'m, 'a, R>
-        requires { Sound memory.now link }
+    // The tree that a link leads to.
+    pub fn new(memory: &'m Memory<'a, R>, link: Option<u16>) -> Subtree<'m, 'a, R>
+        requires { Leads memory.now link }
+        ensures memory { result.memory.now ≡ memory.now }
         ensures tree { tree_under result ≡ tree_of memory.now link }
         ensures chunks { chunks_under result ≡ chunks_in memory.now link }
         ensures keeps { (μ : Measure R) → Kept μ memory.now link → KeptUnder result μ }
@@ -29,7 +32,11 @@ impl<'m, 'a, R: Copy> Subtree<'m, 'a, R> {
         ensures height { result.height ≡ height_of (tree_under self.entry) }
         ensures bytes { result.bytes ≡ length (text_under self.entry) }
         ensures chunks { result.chunks ≡ length (chunks_under self.entry) }
+        ensures balanced { Balanced (tree_under self.entry) }
+        ensures low { height_of (tree_under self.entry) ≤ 16 }
+        ensures usable { length (chunks_under self.entry) ≤ self.entry.memory.now.usable }
         ensures few { length (chunks_under self.entry) ≤ 4096 }
+        ensures chunked { All Chunk (chunks_under self.entry) }
         ensures short { length (text_under self.entry) ≤ 262144 }
     {
         extent(self.memory, self.link)

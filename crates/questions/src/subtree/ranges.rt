@@ -23,17 +23,18 @@ impl<R: Copy> Subtree<'_, '_, R> {
     pub fn reading<M: Meter<Reading = R>>(self, meter: &M, span: Span) -> R
         ensures { KeptUnder self.entry (M.scale meter.now) → result ≡ reading_of (M.scale meter.now) (within span (text_under self.entry)) }
     {
-        let bytes = self.bytes();
+        let (part, span) = self.narrowed(span);
+        let bytes = part.bytes();
         if span.from >= span.to || span.from >= bytes {
             return meter.empty();
         }
         if span.from == 0
             && span.to >= bytes
-            && let Some(kept) = self.kept()
+            && let Some(kept) = part.kept()
         {
             return *kept;
         }
-        let Some(parts) = self.parts() else {
+        let Some(parts) = part.parts() else {
             return meter.empty();
         };
         let (own, rest) = parts.cut(span);

@@ -12,10 +12,11 @@ impl<R: Copy> Subtree<'_, '_, R> {
     pub fn strip<'g>(self, span: Span, given: &'g [u8]) -> Option<&'g [u8]>
         ensures { Stripped (within span (text_under self.entry)) given.now result }
     {
-        if span.from >= span.to || span.from >= self.bytes() {
+        let (part, span) = self.narrowed(span);
+        if span.from >= span.to || span.from >= part.bytes() {
             return Some(given);
         }
-        let Some(parts) = self.parts() else {
+        let Some(parts) = part.parts() else {
             return Some(given);
         };
         let (own, rest) = parts.cut(span);
@@ -28,9 +29,6 @@ impl<R: Copy> Subtree<'_, '_, R> {
     pub fn same(self, span: Span, given: &[u8]) -> bool
         ensures { Decides result (within span (text_under self.entry) ≡ given.now) }
     {
-        match self.strip(span, given) {
-            Some(rest) => rest.is_empty(),
-            None => false,
-        }
+        matches!(self.strip(span, given), Some([]))
     }
 }

@@ -12,7 +12,7 @@ ghost use Rattle.measure.specs.Measure.{Measure, reading as reading_of};
 ghost use Rattle.tree.specs.Public.{tree_in, chunks_now, usable_of, lent_to, KeptBy, copyable, preparable, replaceable};
 ghost use Rattle.tree.specs.Refused.{copying, preparing, replacing};
 ghost use Rattle.slots.specs.Copy.{pasted};
-ghost use Rattle.questions.specs.Under.{chunks_under, KeptUnder};
+ghost use Rattle.questions.specs.Under.{tree_under, chunks_under, KeptUnder};
 
 use crate::chunk_tree::ChunkTree;
 use crate::lent::Lent;
@@ -34,10 +34,12 @@ use slots::slot::Extent;
 impl<'a, R: Copy> ChunkTree<'a, R> {
     // The tree that memory holds.
     pub(crate) fn tree(&self) -> Subtree<'_, 'a, R>
+        ensures tree { tree_under result ≡ tree_in self.now }
         ensures chunks { chunks_under result ≡ chunks_now self.now }
+        ensures memory { result.memory.now ≡ self.now.memory }
         ensures keeps { (μ : Measure R) → KeptBy self.now μ → KeptUnder result μ }
     {
-        Subtree::whole(&self.memory, self.root)
+        Subtree::new(&self.memory, self.root)
     }
 
     // How large it is.
@@ -51,7 +53,7 @@ impl<'a, R: Copy> ChunkTree<'a, R> {
         ensures few { length (chunks_now self.now) ≤ usable_of self.now }
         ensures chunked { All Chunk (chunks_now self.now) }
     {
-        Subtree::whole(&self.memory, self.root).extent()
+        self.tree().extent()
     }
 
     // How many slots may be used: none before `prepare`.

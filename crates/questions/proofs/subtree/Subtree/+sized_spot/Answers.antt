@@ -1,7 +1,6 @@
 use Rattle.std.proofs.Common.{◌-◌, ◌∷◌, length, sym, ap, ◌∙◌, arith}
 use Rattle.std.proofs.lemmas.List.{length-append}
 use Rattle.chunks.specs.declared.sized_spot.SizedSpot.{SizedSpot}
-use Rattle.chunks.specs.SizedSpot.{sized_spot_in}
 use Rattle.chunks.proofs.SizedSpotting.{sized_left, sized_own, sized_right, sized_few}
 use Rattle.questions.specs.Under.{chunks_under}
 use Rattle.questions.proofs.subtree.Subtree.+sized_spot.Goals as goal

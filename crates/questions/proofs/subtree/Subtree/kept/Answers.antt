@@ -1,7 +1,6 @@
 use Rattle.std.proofs.Common.{ap, ◌∙◌}
 use Rattle.std.specs.ControlFlow.{continue_value}
 use Rattle.questions.proofs.Opening.{no_chunks, within, top_kept}
-use Rattle.questions.specs.Parted.{KeptAs}
 use Rattle.questions.proofs.subtree.Subtree.kept.Goals as goal
 
 pub returns-in_err-i : goal.returns-in_err-i

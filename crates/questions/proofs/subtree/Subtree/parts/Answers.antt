@@ -1,8 +1,8 @@
-use Rattle.std.proofs.Common.{◌≡◌, ℕ, ◌+◌, ◌*◌, ◌-◌, List, ◌∷◌, ◌++◌, Some, length, take, drop, sym, ap, ◌∙◌, arith}
+use Rattle.std.proofs.Common.{ℕ, List, ◌∷◌, ◌++◌, length, sym, ap, ◌∙◌, arith}
 use Rattle.std.specs.ControlFlow.{continue_value}
 use Rattle.measure.specs.Measure.{reading}
 use Rattle.slots.specs.Sound.{chunks_in}
-use Rattle.questions.proofs.Opening.{no_chunks, within, Top, top}
+use Rattle.questions.proofs.Opening.{no_chunks, within, top}
 use Rattle.questions.proofs.subtree.Subtree.parts.Goals as goal
 
 pub returns-in_err-i : goal.returns-in_err-i
