@@ -4,9 +4,6 @@ use Rattle.std.proofs.lemmas.List.{append_cancel_left}
 use Rattle.std.specs.Borrow.{Bor}
 use Rattle.questions.specs.Stripped.{Stripped}
 
-pub stripped_none : (bytes : List ℕ) (given : Bor (List ℕ)) → bytes ≡ [] → Stripped bytes given.now (Some given)
-stripped_none bytes given none = ap (λ l. l ++ given.now) (sym none)
-
 module _ (xs ys given : List ℕ) where
   -- Where the first part is not there, the whole is not.
   pub first_missing : Stripped xs given None → Stripped (xs ++ ys) given None
