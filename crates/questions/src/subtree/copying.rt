@@ -23,11 +23,10 @@ impl<R: Copy> Subtree<'_, '_, R> {
         requires { at + length (within span (text_under self)) ≤ length out.old }
         ensures { Copied (within span (text_under self.entry)) out.old at out.new result }
     {
-        let (part, span) = self.narrowed(span);
-        if span.from >= span.to || span.from >= part.bytes() {
+        if span.from >= span.to || span.from >= self.bytes() {
             return at;
         }
-        let Some(parts) = part.parts() else {
+        let Some(parts) = self.parts() else {
             return at;
         };
         let (own, rest) = parts.cut(span);

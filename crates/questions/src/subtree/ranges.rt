@@ -23,18 +23,17 @@ impl<R: Copy> Subtree<'_, '_, R> {
     pub fn reading<M: Meter<Reading = R>>(self, meter: &M, span: Span) -> R
         ensures { KeptUnder self.entry (M.scale meter.now) → result ≡ reading_of (M.scale meter.now) (within span (text_under self.entry)) }
     {
-        let (part, span) = self.narrowed(span);
-        let bytes = part.bytes();
+        let bytes = self.bytes();
         if span.from >= span.to || span.from >= bytes {
             return meter.empty();
         }
         if span.from == 0
             && span.to >= bytes
-            && let Some(kept) = part.kept()
+            && let Some(kept) = self.kept()
         {
             return *kept;
         }
-        let Some(parts) = part.parts() else {
+        let Some(parts) = self.parts() else {
             return meter.empty();
         };
         let (own, rest) = parts.cut(span);

@@ -12,11 +12,10 @@ impl<R: Copy> Subtree<'_, '_, R> {
     pub fn strip<'g>(self, span: Span, given: &'g [u8]) -> Option<&'g [u8]>
         ensures { Stripped (within span (text_under self.entry)) given.now result }
     {
-        let (part, span) = self.narrowed(span);
-        if span.from >= span.to || span.from >= part.bytes() {
+        if span.from >= span.to || span.from >= self.bytes() {
             return Some(given);
         }
-        let Some(parts) = part.parts() else {
+        let Some(parts) = self.parts() else {
             return Some(given);
         };
         let (own, rest) = parts.cut(span);

@@ -12,7 +12,8 @@ ghost use Rattle.measure.specs.Measure.{Measure, reading as reading_of};
 ghost use Rattle.tree.specs.Public.{tree_in, chunks_now, usable_of, lent_to, KeptBy, copyable, preparable, replaceable};
 ghost use Rattle.tree.specs.Refused.{copying, preparing, replacing};
 ghost use Rattle.slots.specs.Copy.{pasted};
-ghost use Rattle.questions.specs.Under.{tree_under, chunks_under, KeptUnder};
+ghost use Rattle.questions.specs.Under.{tree_under, chunks_under, text_under, KeptUnder};
+ghost use Rattle.questions.specs.Spans.{within};
 
 use crate::chunk_tree::ChunkTree;
 use crate::lent::Lent;
@@ -40,6 +41,18 @@ impl<'a, R: Copy> ChunkTree<'a, R> {
         ensures keeps { (μ : Measure R) → KeptBy self.now μ → KeptUnder result μ }
     {
         Subtree::new(&self.memory, self.root)
+    }
+
+    // The lowest part in which lies all of a range, and the range counted in it.
+    fn part(&self, from: u32, to: u32) -> (Subtree<'_, 'a, R>, Span)
+        ensures bytes { within result.1 (text_under result.0) ≡ between from to (joined (chunks_now self.now)) }
+        ensures keeps { (μ : Measure R) → KeptBy self.now μ → KeptUnder result.0 μ }
+    {
+        let span = Span {
+            from: from as usize,
+            to: to as usize,
+        };
+        self.tree().narrowed(span)
     }
 
     // How large it is.
@@ -121,11 +134,8 @@ impl<'a, R: Copy> ChunkTree<'a, R> {
         if (to - from) as usize > out.len() {
             return Err(CopyRefusal::ShortBuffer);
         }
-        let span = Span {
-            from: from as usize,
-            to: to as usize,
-        };
-        let _ = self.tree().copy(span, out, 0);
+        let (part, span) = self.part(from, to);
+        let _ = part.copy(span, out, 0);
         Ok(())
     }
 
@@ -137,23 +147,16 @@ impl<'a, R: Copy> ChunkTree<'a, R> {
         if place > bytes || given.len() > (bytes - place) as usize {
             return false;
         }
-        let from = place as usize;
-        let span = Span {
-            from,
-            to: from + given.len(),
-        };
-        self.tree().same(span, given)
+        let (part, span) = self.part(place, place + given.len() as u32);
+        part.same(span, given)
     }
 
     // The reading of the bytes from `from` up to `to`, joined from the readings that slots keep and the cut ends' own bytes.
     pub fn reading<M: Meter<Reading = R>>(&self, meter: &M, from: u32, to: u32) -> R
         ensures { KeptBy self.now (M.scale meter.now) → result ≡ reading_of (M.scale meter.now) (between from to (joined (chunks_now self.now))) }
     {
-        let span = Span {
-            from: from as usize,
-            to: to as usize,
-        };
-        self.tree().reading(meter, span)
+        let (part, span) = self.part(from, to);
+        part.reading(meter, span)
     }
 
     // Where a search comes to in the text from a place on: as defined, where the readings kept are those it looks into.

@@ -1,4 +1,4 @@
-use Rattle.std.proofs.Common.{Some, None, sym, ◌∙◌}
+use Rattle.std.proofs.Common.{Some, None}
 use Rattle.std.proofs.lemmas.Slice.Eq.{strip_prefix_is}
 use Rattle.std.proofs.lemmas.Bool.Decides.{Decides-eqb}
 use Rattle.questions.specs.Spans.{within}
@@ -10,7 +10,7 @@ use Rattle.questions.proofs.subtree.Subtree.+strip.Goals as goal
 
 pub returns-in_err-behind_left : goal.returns-in_err-behind_left
 returns-in_err-behind_left g t c =
-    rw (c.from_residual.ensures, sym c.narrowed.ensures.bytes ∙ range_parts c.in-Some.ensures c.narrowed.result.1 _ _ c.cut.ensures.own c.cut.ensures.rest)
+    rw (c.from_residual.ensures, range_parts c.in-Some.ensures c.args.span _ _ c.cut.ensures.own c.cut.ensures.rest)
     (first_missing _ _ c.args.given.now c.in_err-behind_left.ensures)
 
 pub returns-in_err-behind_own : goal.returns-in_err-behind_own
@@ -19,7 +19,7 @@ returns-in_err-behind_own g t c =
     let own = within c.cut.result.0 c.in-Some.parts.chunk.now in
     let rest = within c.cut.result.1 (text_under c.in-Some.parts.right) in
     let missing : Stripped own given.now None = rw (← c.within.ensures) (strip_prefix_is Decides-eqb given.now c.within.result.now None c.in_err-behind_own.ensures.cases) in
-    rw (c.from_residual-in_err-behind_own.ensures, sym c.narrowed.ensures.bytes ∙ range_parts c.in-Some.ensures c.narrowed.result.1 _ _ c.cut.ensures.own c.cut.ensures.rest)
+    rw (c.from_residual-in_err-behind_own.ensures, range_parts c.in-Some.ensures c.args.span _ _ c.cut.ensures.own c.cut.ensures.rest)
     (first_stripped _ _ c.args.given.now given c.in_ok-behind_left.ensures None (first_missing own rest given.now missing))
 
 pub returns : goal.returns
@@ -29,5 +29,5 @@ returns g t c =
     let own = within c.cut.result.0 c.in-Some.parts.chunk.now in
     let rest = within c.cut.result.1 (text_under c.in-Some.parts.right) in
     let there : Stripped own given.now (Some behind) = rw (← c.within.ensures) (strip_prefix_is Decides-eqb given.now c.within.result.now (Some behind) c.in_ok-behind_own.ensures.cases) in
-    rw (sym c.narrowed.ensures.bytes ∙ range_parts c.in-Some.ensures c.narrowed.result.1 _ _ c.cut.ensures.own c.cut.ensures.rest)
+    rw (range_parts c.in-Some.ensures c.args.span _ _ c.cut.ensures.own c.cut.ensures.rest)
     (first_stripped _ _ c.args.given.now given c.in_ok-behind_left.ensures _ (first_stripped own rest given.now behind there _ c.strip-2.ensures))
