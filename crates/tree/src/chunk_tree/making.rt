@@ -8,6 +8,7 @@ use slots::slot::Slot;
 
 impl<'a, R: Copy> ChunkTree<'a, R> {
     // An empty tree over lent slots, store and readings; no slot is usable yet.
+    // The three are apart, as a host lends them: each has a length of its own, which `prepare` looks at.
     pub fn new(
         slots: &'a mut [Slot<R>],
         store: &'a mut [u8],
