@@ -1,4 +1,5 @@
 // A search from right to left through the text of a tree, over whole subtrees by their readings.
+// One function with `seek` would ask on every line which way it goes: here each part needs the state that the parts before it leave.
 ghost use Rattle.std.specs.Prelude.{◌≡◌, ◌≤◌, length, take};
 ghost use Rattle.measure.specs.Measure.{reading as reading_of};
 ghost use Rattle.search.specs.Backwards.{forwards, back_stop};
