@@ -14,8 +14,8 @@ use Rattle.slots.specs.View.{size_of}
 use Rattle.slots.specs.Holds.{Holds, Owned, Ready}
 use Rattle.slots.specs.Frame.{Frame}
 use Rattle.slots.specs.Join.{Linked, Joined}
-use Rattle.slots.proofs.Frame.{frame_trans, frame_more, size_same, roomy_same}
-use Rattle.slots.proofs.Holds.{holds_frame, owned_frame}
+use Rattle.slots.proofs.Frame.{frame_trans, frame_more}
+use Rattle.slots.proofs.Holds.{holds_frame, owned_frame, ready_frame}
 
 -- A tree taken apart at its top.
 pub record Parts {R : Type 0} (w : Claim R) (m : Memory R) (a : Tree) (i : ℕ) (b : Tree) : Type 0 where
@@ -119,20 +119,7 @@ module _ {R : Type 0} where
       pub ready_outer : (outer : Option ℕ) → outer ≡ root o → (r : ℕ) → Some r ≡ root t₁ → Ready m₁ outer o k (Some r) t₁
       ready_outer outer e r top =
           let p = parts nothing m s o k n ready.near_holds in
-          let size = size_same m m₁ _ first.frame k in
-          let u = first.frame.usable in
-          let known = p.known in
-          record {
-            roomy = roomy_same m m₁ _ first.frame ready.roomy;
-            known = omega arith;
-            near_root = e;
-            far_root = top;
-            near_holds = outer_stays nothing p.near;
-            far_holds = first.keeps nothing tt p.far ready.far_holds (record { own = λ d. tt });
-            once = λ j. subst (λ z. uses o j + (one k j + uses t₁ j) ≤ below z j) (sym u) (omega (arith, once j, moved j));
-            some_byte = subst (λ z. 1 ≤ z) (sym size) p.some_byte;
-            few_bytes = subst (λ z. z ≤ 64) (sym size) p.few_bytes;
-          }
+          ready_frame m m₁ _ first.frame ready.roomy k (p.known, (p.some_byte, p.few_bytes)) e top (outer_stays nothing p.near) (first.keeps nothing tt p.far ready.far_holds (record { own = λ d. tt })) (λ j. omega (arith, once j, moved j))
 
       pub joined_over : (m₂ : Memory R) (t₂ : Tree) → Joined μ s m₁ o k t₁ m₂ t₂ → height (around s o k n) ≤ height t₂ → height b ≤ height t₂ →
           ((h : ℕ) → height (around s o k n) ≤ h → height b ≤ h → height t₂ ≤ suc h) → Joined μ s m (around s o k n) i b m₂ t₂
@@ -186,20 +173,8 @@ module _ {R : Type 0} where
 
       pub ready_second : (inner : Option ℕ) → inner ≡ root y → Ready m₁ inner y i far b
       ready_second inner e =
-          let size = size_same m m₁ _ first.frame i in
-          let u = first.frame.usable in
-          let known = ready.known in
-          record {
-            roomy = roomy_same m m₁ _ first.frame ready.roomy;
-            known = omega arith;
-            near_root = e;
-            far_root = ready.far_root;
-            near_holds = stays₁ nothing y y_apart (inner_parts nothing ready.near_holds).far;
-            far_holds = stays₁ nothing b b_apart ready.far_holds;
-            once = λ q. subst (λ z. uses y q + (one i q + uses b q) ≤ below z q) (sym u) (omega (arith, once_twice q));
-            some_byte = subst (λ z. 1 ≤ z) (sym size) ready.some_byte;
-            few_bytes = subst (λ z. z ≤ 64) (sym size) ready.few_bytes;
-          }
+          ready_frame m m₁ _ first.frame ready.roomy i (ready.known, (ready.some_byte, ready.few_bytes)) e ready.far_root (stays₁ nothing y y_apart (inner_parts nothing ready.near_holds).far) (stays₁ nothing b b_apart ready.far_holds)
+          (λ q. omega (arith, once_twice q))
 
       module _ (m₂ : Memory R) (second : Linked μ s m₁ y i b m₂) where
         both : Frame m m₂ (λ q. one k q + one i q)
@@ -219,20 +194,8 @@ module _ {R : Type 0} where
         pub ready_third : Ready m₂ (Some k) (around s o k x) j (Some i) (around s y i b)
         ready_third =
             let p = inner_parts nothing ready.near_holds in
-            let size = size_same m m₂ _ both j in
-            let u = both.usable in
-            let known = p.known in
-            record {
-              roomy = roomy_same m m₂ _ both ready.roomy;
-              known = omega arith;
-              near_root = sym (root_around s o k x);
-              far_root = sym (root_around s y i b);
-              near_holds = near_side nothing tt ready.near_holds;
-              far_holds = far_side nothing tt ready.near_holds ready.far_holds (record { own = λ d. tt });
-              once = λ q. subst (λ z. uses (around s o k x) q + (one j q + uses (around s y i b) q) ≤ below z q) (sym u) (omega (arith, uses_around s o k x q, uses_around s y i b q, once_twice q));
-              some_byte = subst (λ z. 1 ≤ z) (sym size) p.some_byte;
-              few_bytes = subst (λ z. z ≤ 64) (sym size) p.few_bytes;
-            }
+            ready_frame m m₂ _ both ready.roomy j (p.known, (p.some_byte, p.few_bytes)) (sym (root_around s o k x)) (sym (root_around s y i b)) (near_side nothing tt ready.near_holds)
+            (far_side nothing tt ready.near_holds ready.far_holds (record { own = λ d. tt })) (λ q. omega (arith, uses_around s o k x q, uses_around s y i b q, once_twice q))
 
         module _ (m₃ : Memory R) (third : Linked μ s m₂ (around s o k x) j (around s y i b) m₃) where
           abbrev pub t₃ : Tree

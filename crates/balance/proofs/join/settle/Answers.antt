@@ -9,17 +9,6 @@ use Rattle.slots.proofs.Rotating.{steep_higher, steep_lower}
 use Rattle.slots.proofs.Joining.{settled_linked}
 use Rattle.balance.proofs.join.settle.Goals as goal
 
-pub rotate-requires : goal.rotate-requires
-rotate-requires g c =
-    let a = c.requires.0 in
-    let b = c.requires.1.0 in
-    let grown = c.requires.1.1 in
-    let ready = grown.ready in
-    let far = grown.far_low in
-    let higher = steep_higher b a 1 _ (c.top_if_higher.ensures b a ready.far_root ready.near_root ready.far_holds ready.near_holds) (sym c.is_some.ensures ∙ c.if-is_some.true) in
-    let two : height b ≡ suc (suc (height a)) = omega arith in
-    (b, (a, (ready_turned _ _ _ _ _ _ ready, two)))
-
 pub returns-then-is_some : goal.returns-then-is_some
 returns-then-is_some g c a b grown =
     let μ = g.M.Meter.scale c.args.meter.now in

@@ -1,14 +1,8 @@
 use Rattle.std.proofs.Common.{◌≡◌, suc, ◌-◌, length, sym, ap, ◌∙◌, arith}
 use Rattle.chunks.specs.Tree.{slots}
 use Rattle.slots.specs.declared.slot.Extent.{Extent}
-use Rattle.slots.proofs.Splitting.{held_first, append_none, last_some, append_ready, append_joined}
+use Rattle.slots.proofs.Splitting.{held_first, last_some, append_ready, append_joined}
 use Rattle.balance.proofs.split.append.Goals as goal
-
-pub returns-then-count-eq0 : goal.returns-then-count-eq0
-returns-then-count-eq0 g c a b apart =
-    let μ = g.M.Meter.scale c.args.meter.now in
-    let count = ap (λ (x : Extent). x.chunks) (c.extent-count.ensures a apart.first_root apart.first_holds) in
-    (b, (apart.rest_root, append_none μ apart (omega arith)))
 
 pub join-requires : goal.join-requires
 join-requires g c =

@@ -2,36 +2,32 @@ use Rattle.std.proofs.Common.{◌≡◌, ◌-◌, ◌≤◌, length, take, drop,
 use Rattle.chunks.specs.Cut.{begin, share}
 use Rattle.chunks.proofs.Cut.{begin_more, chunk_within}
 use Rattle.exchange.proofs.build.chunk.Goals as goal
+use Rattle.exchange.proofs.build.chunk.Goals.{After-begin-to}
 
-pub slice_bounds-result-count : goal.slice_bounds-result-count
-slice_bounds-result-count c =
-    let j = length c.args.bytes.now in
-    let q = c.args.count in
-    let k = c.args.k in
-    omega (arith, begin_more j q k, ap (begin j q) (add-one k))
-
-pub slice_bounds-result-start : goal.slice_bounds-result-start
-slice_bounds-result-start c =
+-- The chunk lies within the bytes.
+inside : (c : goal.After-begin-to) → (c.begin-from.result ≤ c.begin-to.result) × (c.begin-to.result ≤ length c.args.bytes.now)
+inside c =
     let j = length c.args.bytes.now in
     let q = c.args.count in
     let k = c.args.k in
     let some = chunk_within c.args.bytes.now q (omega arith) k c.requires in
     let more = begin_more j q k in
     let next = ap (begin j q) (add-one k) in
-    let low : c.begin-from.result ≤ c.begin-to.result = omega arith in
-    let high : c.begin-to.result ≤ length c.args.bytes.now = omega arith in
+    (omega arith, omega arith)
+
+pub slice_bounds-result-count : goal.slice_bounds-result-count
+slice_bounds-result-count c = let w = inside (goal.at.slice_bounds-result-count c).After-begin-to in omega arith
+
+pub slice_bounds-result-start : goal.slice_bounds-result-start
+slice_bounds-result-start c =
+    let low = (inside (goal.at.slice_bounds-result-start c).After-begin-to).0 in
+    let high = (inside (goal.at.slice_bounds-result-start c).After-begin-to).1 in
     search rules
 
 pub slice_bounds-result-end : goal.slice_bounds-result-end
 slice_bounds-result-end c =
-    let j = length c.args.bytes.now in
-    let q = c.args.count in
-    let k = c.args.k in
-    let some = chunk_within c.args.bytes.now q (omega arith) k c.requires in
-    let more = begin_more j q k in
-    let next = ap (begin j q) (add-one k) in
-    let low : c.begin-from.result ≤ c.begin-to.result = omega arith in
-    let high : c.begin-to.result ≤ length c.args.bytes.now = omega arith in
+    let low = (inside (goal.at.slice_bounds-result-end c).After-begin-to).0 in
+    let high = (inside (goal.at.slice_bounds-result-end c).After-begin-to).1 in
     search rules
 
 pub returns : goal.returns

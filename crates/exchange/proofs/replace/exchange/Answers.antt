@@ -2,8 +2,8 @@ use Rattle.slots.proofs.Reading.{whole_sound, sound_whole}
 use Rattle.slots.proofs.Exchanging.{enough_free, exchanged_chunks, exchanged_kept, exchanged_size}
 use Rattle.exchange.proofs.replace.exchange.Goals as goal
 
-pub remove-first-requires : goal.remove-first-requires
-remove-first-requires g c = record { whole = (_, (_, whole_sound _ _ c.requires.sound)); order = c.requires.order }
+pub remove-first-requires-clause-whole : goal.remove-first-requires-clause-whole
+remove-first-requires-clause-whole g c = (_, (_, whole_sound _ _ c.requires.sound))
 
 pub insert-requires : goal.insert-requires
 insert-requires g c =
