@@ -44,10 +44,10 @@ idle_rest {m} {is} idle n {after} there stack = record {
       (omega (arith, idle.once j, count_append (take n is) (drop n is) j, ap (λ l. count l j) (take-append-drop n is)));
 }
 
-pub built_none : {R : Type 0} (μ : Measure R) {m : Memory R} {is : List ℕ} → Idle m is → Built μ m is 0 [] m leaf
-built_none μ {m} idle = record { elsewhere = elsewhere_none m _; stack = idle.stack; used = λ j. refl; chunks_are = refl; holds = λ w fair. tt }
+pub built_none : {R : Type 0} {μ : Measure R} {m : Memory R} {is : List ℕ} → Idle m is → Built μ m is 0 [] m leaf
+built_none {m = m} idle = record { elsewhere = elsewhere_none m _; stack = idle.stack; used = λ j. refl; chunks_are = refl; holds = λ w fair. tt }
 
-module _ {R : Type 0} (μ : Measure R) {m : Memory R} {is : List ℕ} (idle : Idle m is) {n : ℕ} (room : n ≤ length is) (h r : ℕ) (cut-is : n ≡ h + suc r)
+module _ {R : Type 0} {μ : Measure R} {m : Memory R} {is : List ℕ} (idle : Idle m is) {n : ℕ} (room : n ≤ length is) (h r : ℕ) (cut-is : n ≡ h + suc r)
     {cs : List (List ℕ)} {m₁ : Memory R} {a : Tree} (left : Built μ m is h cs m₁ a) where
   i : ℕ
   i = get_or is h 0

@@ -32,22 +32,22 @@ module _ {R : Type 0} where
       ap (height_at m) e ∙ at_any m.slots.now i (omega arith) (λ (s : Slot R). s.node.extent.height) 0 (λ d. ap (λ (x : Extent). x.height) (here.placed d).extent)
 
   -- A slot between two trees that are settled by one link.
-  pub settled_linked : (μ : Measure R) (s : Side) (m : Memory R) (a : Tree) (i : ℕ) (b : Tree) (after : Memory R) → Linked μ s m a i b after → Settled μ s m a i b after (around s a i b)
-  settled_linked μ s m a i b after l = record { joined = joined_linked μ s m a i b after l; exact = λ _. height_around s a i b }
+  pub settled_linked : {μ : Measure R} {s : Side} {m : Memory R} {a : Tree} {i : ℕ} {b : Tree} {after : Memory R} → Linked μ s m a i b after → Settled μ s m a i b after (around s a i b)
+  settled_linked {s = s} {a = a} {i = i} {b = b} l = record { joined = joined_linked l; exact = λ _. height_around s a i b }
 
   -- Going down on the near side.
-  module _ (μ : Measure R) {m : Memory R} {s : Side} {outer : Option ℕ} {inner : Option ℕ} {near-link : Option ℕ} {a : Tree} {i : ℕ} {far-link : Option ℕ} {b : Tree} (k : ℕ)
+  module _ {m : Memory R} {s : Side} {outer : Option ℕ} {inner : Option ℕ} {near-link : Option ℕ} {a : Tree} {i : ℕ} {far-link : Option ℕ} {b : Tree} (k : ℕ)
       (ready : Ready m near-link a i far-link b) (v : Seen m s outer inner k a) (steep : suc (height b) < height a) where
     ready_open : Ready m near-link (around s v.o k v.n) i far-link b
     ready_open = subst (λ (z : Tree). Ready m near-link z i far-link b) v.is ready
 
     pub down_ready : Ready m inner v.n i far-link b
-    down_ready = ready_inner μ s m near-link v.o k v.n i far-link b ready_open inner v.inner_root
+    down_ready = ready_inner s m near-link v.o k v.n i far-link b ready_open inner v.inner_root
 
     pub down_lower : height v.n < height a
     down_lower = omega (arith, ap height v.is, height_around s v.o k v.n)
 
-    module _ (m₁ : Memory R) (t₁ : Tree) (r : ℕ) (top : Some r ≡ root t₁) (first : Joined μ s m v.n i b m₁ t₁) where
+    module _ {μ : Measure R} (m₁ : Memory R) (t₁ : Tree) (r : ℕ) (top : Some r ≡ root t₁) (first : Joined μ s m v.n i b m₁ t₁) where
       down_heights : (height a ≡ suc (max (height v.o) (height v.n))) × ((height v.o ≤ suc (height v.n)) × ((height v.n ≤ suc (height v.o)) × ((height v.n ≤ height t₁) × (height t₁ ≤ suc (height v.n)))))
       down_heights =
           let p = parts nothing m s v.o k v.n ready_open.near_holds in
@@ -60,7 +60,7 @@ module _ {R : Type 0} where
       down_grown =
           let h = down_heights in
           record {
-            ready = ready_outer μ s m near-link v.o k v.n i far-link b ready_open m₁ t₁ first outer v.outer_root r top;
+            ready = ready_outer s m near-link v.o k v.n i far-link b ready_open m₁ t₁ first outer v.outer_root r top;
             far_low = omega arith;
             near_low = omega arith;
           }
@@ -75,7 +75,7 @@ module _ {R : Type 0} where
           ⊎_elim (λ e. let flat = second.exact (omega arith) in (omega arith, omega arith)) (λ e. let tall = most (omega arith) in (omega arith, omega arith)) (cases_lt (height t₁) (suc (suc (height v.o))))
           in
           subst (λ (z : Tree). Joined μ s m z i b m₂ t₂) (sym v.is)
-          (joined_over μ s m near-link v.o k v.n i far-link b ready_open m₁ t₁ first m₂ t₂ second.joined (omega (arith, bounds)) (omega (arith, bounds)) (λ q e f. omega (arith, bounds)))
+          (joined_over s m near-link v.o k v.n i far-link b ready_open m₁ t₁ first m₂ t₂ second.joined (omega (arith, bounds)) (omega (arith, bounds)) (λ q e f. omega (arith, bounds)))
 
 -- A tree is higher than its sides.
 pub node_higher : {t l : Tree} {i : ℕ} {r : Tree} → t ≡ node l i r → (height l < height t) × (height r < height t)

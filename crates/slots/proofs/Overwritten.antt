@@ -19,7 +19,7 @@ use Rattle.slots.proofs.Elsewhere.{roomy_elsewhere, stack_elsewhere}
 use Rattle.slots.proofs.Reading.{tree_is}
 use Rattle.slots.proofs.Replacing.{same_size}
 
-module _ {R : Type 0} (μ : Measure R) {m : Memory R} {link : Option ℕ} (t : Tree) {is : List ℕ} (whole : Whole m link t is) (bytes : List ℕ) (from : ℕ) (within : from + needed (length bytes) ≤ length (chunks_of m t))
+module _ {R : Type 0} {μ : Measure R} {m : Memory R} {link : Option ℕ} (t : Tree) {is : List ℕ} (whole : Whole m link t is) (bytes : List ℕ) (from : ℕ) (within : from + needed (length bytes) ≤ length (chunks_of m t))
     {after : Memory R} (done : Rewritten μ m t 0 bytes (needed (length bytes)) from (from + needed (length bytes)) after) where
   pub overwritten_whole : Whole after link t is
   overwritten_whole = record {

@@ -44,7 +44,7 @@ module _ {R : Type 0} where
   stack_frame {m} {n} {f} p is apart h = subst (λ (z : Option ℕ). Stack n z is) (sym p.free) (stack_elsewhere m n f (elsewhere_frame m n f p) m.free is apart h)
 
   -- Both parts of a tree that was cut.
-  module _ (μ : Measure R) {m : Memory R} {link : Option ℕ} {t : Tree} (held : Held m link t) {at : ℕ} {m₁ : Memory R} {a b : Tree} (halved : Halved μ m t at m₁ a b) where
+  module _ {μ : Measure R} {m : Memory R} {link : Option ℕ} {t : Tree} (held : Held m link t) {at : ℕ} {m₁ : Memory R} {a b : Tree} (halved : Halved μ m t at m₁ a b) where
     held_part : {x : Tree} → Holds nothing m₁ x → ((j : ℕ) → uses x j ≤ uses t j) → (link : Option ℕ) → link ≡ root x → Held m₁ link x
     held_part {x} holds less link e = record {
       roomy = roomy_same m m₁ _ halved.frame held.roomy;
@@ -54,10 +54,10 @@ module _ {R : Type 0} where
     }
 
     pub held_front : (first : Option ℕ) → first ≡ root a → Held m₁ first a
-    held_front = held_part (halved.keeps nothing tt held.holds).0 (λ j. omega (arith, halved_uses μ halved j))
+    held_front = held_part (halved.keeps nothing tt held.holds).0 (λ j. omega (arith, halved_uses halved j))
 
     pub held_back : (rest : Option ℕ) → rest ≡ root b → Held m₁ rest b
-    held_back = held_part (halved.keeps nothing tt held.holds).1 (λ j. omega (arith, halved_uses μ halved j))
+    held_back = held_part (halved.keeps nothing tt held.holds).1 (λ j. omega (arith, halved_uses halved j))
 
     front_chunks : chunks_of m₁ a ≡ take at (chunks_of m t)
     front_chunks = chunks_same m m₁ _ halved.frame a ∙ ap (map (chunk_of m)) halved.front ∙ sym (take-map (chunk_of m) at (slots t))
@@ -65,20 +65,20 @@ module _ {R : Type 0} where
     back_chunks : chunks_of m₁ b ≡ drop at (chunks_of m t)
     back_chunks = chunks_same m m₁ _ halved.frame b ∙ ap (map (chunk_of m)) halved.back ∙ sym (drop-map (chunk_of m) at (slots t))
 
-  module _ (μ : Measure R) {m : Memory R} {link : Option ℕ} {t : Tree} {is : List ℕ} (whole : Whole m link t is) where
+  module _ {μ : Measure R} {m : Memory R} {link : Option ℕ} {t : Tree} {is : List ℕ} (whole : Whole m link t is) where
     module _ (from to : ℕ) (order : from ≤ to) {m₁ : Memory R} {a r : Tree} (first : Halved μ m t from m₁ a r) (behind : Option ℕ) (behind-root : behind ≡ root r)
         {m₂ : Memory R} {mid b : Tree} (second : Halved μ m₁ r (to - from) m₂ mid b) {m₃ : Memory R} (third : GivenBack m₂ mid m₃) where
       rest_held : Held m₁ behind r
-      rest_held = held_back μ (held_whole whole) first behind behind-root
+      rest_held = held_back (held_whole whole) first behind behind-root
 
       each : (j : ℕ) → uses a j + (uses mid j + uses b j) + count is j ≡ below m.usable j
-      each j = omega (arith, whole.all j, halved_uses μ first j, halved_uses μ second j)
+      each j = omega (arith, whole.all j, halved_uses first j, halved_uses second j)
 
       idle : Idle m₂ is
       idle = record {
         roomy = roomy_same m₁ m₂ _ second.frame rest_held.roomy;
         stack =
-            stack_frame second.frame is (λ j. omega (arith, each j, halved_uses μ second j, below_few m.usable j))
+            stack_frame second.frame is (λ j. omega (arith, each j, halved_uses second j, below_few m.usable j))
             (stack_frame first.frame is (λ j. omega (arith, whole.all j, below_few m.usable j)) whole.stack);
         once = λ j. subst (λ z. count is j ≤ below z j) (sym (second.frame.usable ∙ first.frame.usable)) (omega (arith, each j));
       }
@@ -86,7 +86,7 @@ module _ {R : Type 0} where
       first_stays : (w : Claim R) → Holds w m₁ a → Holds w m₃ a
       first_stays w h =
           holds_elsewhere m₂ m₃ _ third.0 w a (λ j. omega (arith, each j, below_few m.usable j))
-          (holds_frame w m₁ m₂ _ second.frame a (λ j. omega (arith, each j, halved_uses μ second j, below_few m.usable j)) h)
+          (holds_frame w m₁ m₂ _ second.frame a (λ j. omega (arith, each j, halved_uses second j, below_few m.usable j)) h)
 
       rest_stays : (w : Claim R) → Holds w m₂ b → Holds w m₃ b
       rest_stays w h = holds_elsewhere m₂ m₃ _ third.0 w b (λ j. omega (arith, each j, below_few m.usable j)) h
@@ -115,24 +115,24 @@ module _ {R : Type 0} where
         same_size = size_trans (size_frame first.frame) (size_trans (size_frame second.frame) (same_size third.0));
         before =
             chunks_elsewhere m₂ m₃ _ third.0 nothing a (λ j. omega (arith, each j, below_few m.usable j))
-            (holds_frame nothing m₁ m₂ _ second.frame a (λ j. omega (arith, each j, halved_uses μ second j, below_few m.usable j)) (first.keeps nothing tt whole.holds).0)
+            (holds_frame nothing m₁ m₂ _ second.frame a (λ j. omega (arith, each j, halved_uses second j, below_few m.usable j)) (first.keeps nothing tt whole.holds).0)
             ∙ chunks_same m₁ m₂ _ second.frame a
-            ∙ front_chunks μ (held_whole whole) first;
+            ∙ front_chunks (held_whole whole) first;
         behind =
             let e : from + (to - from) ≡ to = omega arith in
             chunks_elsewhere m₂ m₃ _ third.0 nothing b (λ j. omega (arith, each j, below_few m.usable j)) (second.keeps nothing tt rest_held.holds).1
-            ∙ back_chunks μ rest_held second
-            ∙ ap (drop (to - from)) (back_chunks μ (held_whole whole) first)
+            ∙ back_chunks rest_held second
+            ∙ ap (drop (to - from)) (back_chunks (held_whole whole) first)
             ∙ drop-drop (to - from) from (chunks_of m t)
             ∙ ap (λ n. drop n (chunks_of m t)) e;
         keeps = both;
       }
 
-  module _ (μ : Measure R) {m : Memory R} {first : Option ℕ} {a : Tree} {rest : Option ℕ} {b : Tree} {is : List ℕ} (parted : Parted m first a rest b is) where
+  module _ {m : Memory R} {first : Option ℕ} {a : Tree} {rest : Option ℕ} {b : Tree} {is : List ℕ} (parted : Parted m first a rest b is) where
     pub parted_idle : Idle m is
     parted_idle = record { roomy = parted.roomy; stack = parted.stack; once = λ j. omega (arith, parted.all j) }
 
-    module _ (bytes : List ℕ) {m₁ : Memory R} {new : Tree} (built : Built μ m is (needed (length bytes)) (part bytes (needed (length bytes)) 0 (needed (length bytes))) m₁ new) where
+    module _ {μ : Measure R} (bytes : List ℕ) {m₁ : Memory R} {new : Tree} (built : Built μ m is (needed (length bytes)) (part bytes (needed (length bytes)) 0 (needed (length bytes))) m₁ new) where
       q : ℕ
       q = needed (length bytes)
 

@@ -22,7 +22,7 @@ use Rattle.slots.proofs.Text.{chunks_node}
 use Rattle.slots.proofs.Stacking.{says_measured}
 use Rattle.slots.proofs.Elsewhere.{elsewhere_trans, elsewhere_more, elsewhere_none, elsewhere_frame, size_elsewhere, roomy_elsewhere, chunks_elsewhere, holds_elsewhere, held_elsewhere, owned_elsewhere}
 
-module _ {R : Type 0} (μ : Measure R) {m : Memory R} (i n : ℕ) (bytes : List ℕ) (count from to : ℕ) where
+module _ {R : Type 0} {μ : Measure R} {m : Memory R} (i n : ℕ) (bytes : List ℕ) (count from to : ℕ) where
   pub renewed_not : 1 ≤ size_of m i → size_of m i ≤ 64 → (n < from) ⊎ ((from ≤ n) × (to ≤ n)) → Renewed μ m i n bytes count from to m
   renewed_not some few out = record {
     elsewhere = elsewhere_none m (one i);
@@ -43,7 +43,7 @@ module _ {R : Type 0} (μ : Measure R) {m : Memory R} (i n : ℕ) (bytes : List 
     keeps = λ w fair _. record { own = λ d. says_measured μ w fair _ _ (wrote.own_is d ∙ measured ∙ ap (reading μ) (sym wrote.chunk_is)) };
   }
 
-module _ {R : Type 0} (μ : Measure R) {m : Memory R} (t : Tree) (n : ℕ) (bytes : List ℕ) (count from to : ℕ) where
+module _ {R : Type 0} {μ : Measure R} {m : Memory R} (t : Tree) (n : ℕ) (bytes : List ℕ) (count from to : ℕ) where
   -- Outside the run nothing is to be done.
   pub rewritten_not : (n + length (slots t) ≤ from) ⊎ ((from < n + length (slots t)) × (to ≤ n)) → Rewritten μ m t n bytes count from to m
   rewritten_not out = record {
@@ -55,7 +55,7 @@ module _ {R : Type 0} (μ : Measure R) {m : Memory R} (t : Tree) (n : ℕ) (byte
     keeps = λ w fair h. h;
   }
 
-module _ {R : Type 0} (μ : Measure R) {m : Memory R} {link : Option ℕ} {l : Tree} {i : ℕ} {r : Tree} (held : Held m link (node l i r)) (n : ℕ) (bytes : List ℕ) (count from to : ℕ)
+module _ {R : Type 0} {μ : Measure R} {m : Memory R} {link : Option ℕ} {l : Tree} {i : ℕ} {r : Tree} (held : Held m link (node l i r)) (n : ℕ) (bytes : List ℕ) (count from to : ℕ)
     {m₁ : Memory R} (first : Rewritten μ m l n bytes count from to m₁) where
   each : (j : ℕ) → uses l j + (one i j + uses r j) ≤ below m.usable j
   each j = omega (arith, held.once j, uses_node l i r j)

@@ -64,7 +64,7 @@ halves {m} {link} {left} {right} is held left-is right-is =
     let high = held_height far in
     record { l = p.0; r = p.1.0; is = p.1.1.0; top = top; left_held = near; right_held = far; left_lower = omega arith; right_lower = omega arith }
 
-module _ {R : Type 0} (μ : Measure R) where
+module _ {R : Type 0} {μ : Measure R} where
   -- Both parts of a tree use what the tree uses.
   pub halved_uses : {m after : Memory R} {t : Tree} {at : ℕ} {a b : Tree} → Halved μ m t at after a b → (j : ℕ) → uses a j + uses b j ≡ uses t j
   halved_uses {t} {at} {a} {b} h j =
@@ -146,18 +146,18 @@ here_of w m (node l i r) k e (here, _) =
       (subst (λ n. n < m.usable) same here.known, (subst (λ n. 1 ≤ size_of m n) same here.some_byte, subst (λ n. size_of m n ≤ 64) same here.few_bytes)),
     )
 
-module _ {R : Type 0} (μ : Measure R) {m : Memory R} {first : Option ℕ} {a : Tree} {rest : Option ℕ} {b : Tree} (apart : Apart m first a rest b) where
+module _ {R : Type 0} {m : Memory R} {first : Option ℕ} {a : Tree} {rest : Option ℕ} {b : Tree} (apart : Apart m first a rest b) where
   pub held_first : Held m first a
   held_first = record { roomy = apart.roomy; root_is = apart.first_root; holds = apart.first_holds; once = λ j. omega (arith, apart.once j) }
 
-  pub append_none : length (slots a) ≡ 0 → Appended μ m a b m b
+  pub append_none : {μ : Measure R} → length (slots a) ≡ 0 → Appended μ m a b m b
   append_none none = record {
     frame = frame_none m _;
     order = ap (λ z. z ++ slots b) (sym (nil_from_length (slots a) none));
     keeps = λ w fair ha hb. hb;
   }
 
-  module _ (at : ℕ) (is : suc at ≡ length (slots a)) {m₁ : Memory R} {f z : Tree} (cut : Halved μ m a at m₁ f z) where
+  module _ {μ : Measure R} (at : ℕ) (is : suc at ≡ length (slots a)) {m₁ : Memory R} {f z : Tree} (cut : Halved μ m a at m₁ f z) where
     last_one : length (slots z) ≡ 1
     last_one = ap length cut.back ∙ length-drop at (slots a) ∙ omega arith
 

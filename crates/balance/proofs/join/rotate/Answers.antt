@@ -13,8 +13,8 @@ use Rattle.balance.proofs.join.rotate.Goals.{After-child-inner}
 leans : (g : given.Over) (c : goal.After-child-inner g) (a b : Tree) → Ready c.args.memory.now (Some c.args.tall) a c.args.i c.args.short b → height a ≡ suc (suc (height b)) →
     (v : Seen c.args.memory.now c.args.side c.child-outer.result c.child-inner.result c.args.tall a) × Leaning c.args.memory.now c.args.side c.child-outer.result v.o c.args.tall c.child-inner.result v.n c.args.i c.args.short b
 leans g c a b ready two =
-    let v = seen _ _ c.other.ensures _ _ _ c.child-outer.ensures c.child-inner.ensures _ ready.near_root ready.near_holds in
-    (v, leaning _ _ _ _ _ _ _ ready two v.is v.outer_root v.inner_root)
+    let v = seen c.other.ensures c.child-outer.ensures c.child-inner.ensures _ ready.near_root ready.near_holds in
+    (v, leaning ready two v.is v.outer_root v.inner_root)
 
 pub top_if_higher-requires : goal.top_if_higher-requires
 top_if_higher-requires g c =

@@ -18,42 +18,38 @@ sides_of g c o x y b lean =
 
 pub link_around-requires : goal.link_around-requires
 link_around-requires g c =
-    let μ = g.M.Meter.scale c.args.meter.now in
     let x = c.requires.1.0 in
     let y = c.requires.1.1.0 in
     let p = c.requires.1.1.1.1 in
     let link = sides_of g (goal.at.link_around-requires g c).After-child-far _ x y _ p.0 in
-    (c.requires.0, (x, twice_first μ x y p.0 p.1 _ link.0))
+    (c.requires.0, (x, twice_first x y p.0 p.1 _ link.0))
 
 pub link_around-requires-2 : goal.link_around-requires-2
 link_around-requires-2 g c =
-    let μ = g.M.Meter.scale c.args.meter.now in
     let x = c.requires.1.0 in
     let y = c.requires.1.1.0 in
     let p = c.requires.1.1.1.1 in
     let link = sides_of g (goal.at.link_around-requires-2 g c).After-child-far _ x y _ p.0 in
-    let f = twice_first μ x y p.0 p.1 _ link.0 in
-    (y, (_, twice_second μ x y p.0 p.1 _ (c.link_around.ensures _ _ f.0 f.1) _ link.1))
+    let f = twice_first x y p.0 p.1 _ link.0 in
+    (y, (_, twice_second x y p.0 p.1 _ (c.link_around.ensures _ _ f.0 f.1) _ link.1))
 
 pub link_around-requires-3 : goal.link_around-requires-3
 link_around-requires-3 g c =
-    let μ = g.M.Meter.scale c.args.meter.now in
     let x = c.requires.1.0 in
     let y = c.requires.1.1.0 in
     let p = c.requires.1.1.1.1 in
     let link = sides_of g (goal.at.link_around-requires-3 g c).After-child-far _ x y _ p.0 in
-    let f = twice_first μ x y p.0 p.1 _ link.0 in
+    let f = twice_first x y p.0 p.1 _ link.0 in
     let first = c.link_around.ensures _ _ f.0 f.1 in
-    let s = twice_second μ x y p.0 p.1 _ first _ link.1 in
-    (_, (_, twice_third μ x y p.0 p.1 _ first _ (c.link_around-2.ensures _ _ s.0 s.1)))
+    let s = twice_second x y p.0 p.1 _ first _ link.1 in
+    (_, (_, twice_third x y p.0 p.1 _ first _ (c.link_around-2.ensures _ _ s.0 s.1)))
 
 pub returns : goal.returns
 returns g c o x y b lean steep =
-    let μ = g.M.Meter.scale c.args.meter.now in
     let link = sides_of g (goal.at.returns g c).After-child-far o x y b lean in
-    let f = twice_first μ x y lean steep _ link.0 in
+    let f = twice_first x y lean steep _ link.0 in
     let first = c.link_around.ensures _ _ f.0 f.1 in
-    let s = twice_second μ x y lean steep _ first _ link.1 in
+    let s = twice_second x y lean steep _ first _ link.1 in
     let second = c.link_around-2.ensures _ _ s.0 s.1 in
-    let t = twice_third μ x y lean steep _ first _ second in
-    twice_joined μ x y lean steep _ first _ second _ (c.link_around-3.ensures _ _ t.0 t.1)
+    let t = twice_third x y lean steep _ first _ second in
+    twice_joined x y lean steep _ first _ second _ (c.link_around-3.ensures _ _ t.0 t.1)

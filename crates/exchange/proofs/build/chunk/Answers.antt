@@ -1,6 +1,6 @@
-use Rattle.std.proofs.Common.{◌≡◌, ◌-◌, ◌≤◌, length, take, drop, ap, ◌∙◌, add-one, arith, rules}
+use Rattle.std.proofs.Common.{◌≡◌, ◌+◌, ◌-◌, ◌≤◌, length, take, drop, ap, ◌∙◌, add-one, arith, rules}
 use Rattle.chunks.specs.Cut.{begin, share}
-use Rattle.chunks.proofs.Cut.{begin_more, chunk_within}
+use Rattle.chunks.proofs.Cut.{begin_more, begin_grows, begin_within}
 use Rattle.exchange.proofs.build.chunk.Goals as goal
 use Rattle.exchange.proofs.build.chunk.Goals.{After-begin-to}
 
@@ -8,12 +8,7 @@ use Rattle.exchange.proofs.build.chunk.Goals.{After-begin-to}
 inside : (c : goal.After-begin-to) → (c.begin-from.result ≤ c.begin-to.result) × (c.begin-to.result ≤ length c.args.bytes.now)
 inside c =
     let j = length c.args.bytes.now in
-    let q = c.args.count in
-    let k = c.args.k in
-    let some = chunk_within c.args.bytes.now q (omega arith) k c.requires in
-    let more = begin_more j q k in
-    let next = ap (begin j q) (add-one k) in
-    (omega arith, omega arith)
+    (omega (arith, begin_grows j c.args.count c.args.k 1), omega (arith, begin_within j c.args.count (c.args.k + 1) (omega arith) (omega arith)))
 
 pub slice_bounds-result-count : goal.slice_bounds-result-count
 slice_bounds-result-count c = let w = inside (goal.at.slice_bounds-result-count c).After-begin-to in omega arith

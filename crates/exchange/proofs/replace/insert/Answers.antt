@@ -23,38 +23,34 @@ middle : (g : given.Over) (c : goal.After-build-middle g) (a b : Tree) (is : Lis
 middle g c a b is parted enough =
     let μ = g.M.Meter.scale c.args.meter.now in
     let cut = c.of-cut.ensures in
-    let made = c.build-middle.ensures is (parted_idle μ parted) (omega (arith, cut.count, ap (length {A = ℕ}) cut.bytes)) in
+    let made = c.build-middle.ensures is (parted_idle parted) (omega (arith, cut.count, ap (length {A = ℕ}) cut.bytes)) in
     (made.0, (made.1.0, built_of μ cut.bytes cut.count made.1.1))
 
 pub build-middle-requires : goal.build-middle-requires
 build-middle-requires g c =
-    let μ = g.M.Meter.scale c.args.meter.now in
     let p = c.requires.1.1.1 in
     let cut = c.of-cut.ensures in
-    record { idle = (_, (parted_idle μ p.0, omega (arith, p.1, cut.count, ap (length {A = ℕ}) cut.bytes))); within = omega arith }
+    record { idle = (_, (parted_idle p.0, omega (arith, p.1, cut.count, ap (length {A = ℕ}) cut.bytes))); within = omega arith }
 
 pub append-front-requires : goal.append-front-requires
 append-front-requires g c =
-    let μ = g.M.Meter.scale c.args.meter.now in
     let p = c.requires.1.1.1 in
     let made = middle g (goal.at.append-front-requires g c).After-build-middle _ _ _ p.0 p.1 in
-    (_, (made.0, front_apart μ p.0 c.args.bytes.now made.1.1 _ made.1.0))
+    (_, (made.0, front_apart p.0 c.args.bytes.now made.1.1 _ made.1.0))
 
 pub append-requires : goal.append-requires
 append-requires g c =
-    let μ = g.M.Meter.scale c.args.meter.now in
     let bytes = c.args.bytes.now in
     let p = c.requires.1.1.1 in
     let made = middle g (goal.at.append-requires g c).After-build-middle _ _ _ p.0 p.1 in
-    let front = c.append-front.ensures _ made.0 (front_apart μ p.0 bytes made.1.1 _ made.1.0) in
-    (front.0, (_, back_apart μ p.0 bytes made.1.1 front.1.1 _ front.1.0))
+    let front = c.append-front.ensures _ made.0 (front_apart p.0 bytes made.1.1 _ made.1.0) in
+    (front.0, (_, back_apart p.0 bytes made.1.1 front.1.1 _ front.1.0))
 
 pub returns : goal.returns
 returns g c a b is parted enough =
-    let μ = g.M.Meter.scale c.args.meter.now in
     let bytes = c.args.bytes.now in
     let made = middle g (goal.at.returns g c).After-build-middle a b is parted enough in
     let built = made.1.1 in
-    let front = c.append-front.ensures a made.0 (front_apart μ parted bytes built _ made.1.0) in
-    let done = c.append.ensures front.0 b (back_apart μ parted bytes built front.1.1 _ front.1.0) in
-    (done.0, (_, (inserted_whole μ parted bytes built front.1.1 done.1.1 _ done.1.0, filled μ parted bytes built front.1.1 done.1.1)))
+    let front = c.append-front.ensures a made.0 (front_apart parted bytes built _ made.1.0) in
+    let done = c.append.ensures front.0 b (back_apart parted bytes built front.1.1 _ front.1.0) in
+    (done.0, (_, (inserted_whole parted bytes built front.1.1 done.1.1 _ done.1.0, filled parted bytes built front.1.1 done.1.1)))

@@ -4,8 +4,8 @@ use Rattle.slots.proofs.Elsewhere.{elsewhere_stack, roomy_elsewhere}
 use Rattle.slots.proofs.Stacking.{stored}
 use Rattle.exchange.proofs.store.store_chunk.Goals as goal
 
-pub write-requires : goal.write-requires
-write-requires g c =
+pub write-requires-clause-usable : goal.write-requires-clause-usable
+write-requires-clause-usable g c =
     let i = c.requires.idle.0 in
     let idle = c.requires.idle.1.1 in
     let took = c.take-i.ensures in
@@ -13,7 +13,7 @@ write-requires g c =
     let u = took.usable in
     let known = first_below c.args.memory.now.usable i _ idle.once in
     let roomy = roomy_elsewhere _ _ (λ j. 0) (elsewhere_stack _ _ (λ j. 0) took.slots took.store took.readings took.usable) idle.roomy in
-    record { usable = (roomy, omega arith); fits = c.requires.fits }
+    (roomy, omega arith)
 
 pub returns : goal.returns
 returns g c i is idle =
