@@ -21,6 +21,7 @@ fn begin(bytes: usize, count: usize, k: usize) -> usize
 }
 
 // The k-th of the `count` chunks that `bytes` are cut into.
+#[tactic(auto, using(chunks::proofs::Cut::begin_within, chunks::proofs::Cut::begin_grows))]
 pub fn chunk(bytes: &[u8], count: usize, k: usize) -> &[u8]
     requires { k < count }
     ensures { result.now ≡ chunk_at bytes.now count k }

@@ -1,7 +1,7 @@
 -- What cutting a tree rests on: at a slot, one side is cut, and the slot joins what is left of it with the other side.
 use Rattle.std.proofs.Common.{◌≡◌, ℕ, suc, ◌+◌, ◌-◌, ◌<◌, ◌≤◌, List, [], ◌∷◌, ◌++◌, length, take, drop, Some, None, Option, IsSome, sym, refl, ap, ◌∙◌, subst, arith}
 use Rattle.std.proofs.lemmas.List.{take-append-drop, take-append-le, drop-append-le, length-append, length-drop, append_assoc, nil_from_length}
-use Rattle.std.proofs.Math.Seq.{take-nil, drop-nil, take-append-add, drop-append-add}
+use Rattle.std.proofs.Math.Seq.{take-append-add, drop-append-add}
 use Rattle.measure.specs.Measure.{Measure}
 use Rattle.chunks.specs.declared.side.Side.TheVariants.{Left}
 use Rattle.chunks.specs.Tree.{Tree, leaf, node, root, slots, height}
@@ -14,7 +14,7 @@ use Rattle.slots.specs.View.{size_of, height_at}
 use Rattle.slots.specs.Holds.{Holds, Owned, Ready}
 use Rattle.slots.specs.Join.{Joined}
 use Rattle.slots.specs.Split.{Held, Apart, Halved, Appended}
-use Rattle.slots.proofs.Frame.{frame_trans, frame_more, frame_none, roomy_same}
+use Rattle.slots.proofs.Frame.{frame_trans, frame_more, roomy_same}
 use Rattle.slots.proofs.Holds.{holds_frame, owned_frame, ready_frame}
 use Rattle.slots.proofs.Joining.{height_held}
 
@@ -119,15 +119,6 @@ module _ {R : Type 0} {μ : Measure R} where
             );
       }
 
-  -- Nothing is cut into nothing.
-  pub none_halved : {m : Memory R} {link : Option ℕ} {t : Tree} (held : Held m link t) (at : ℕ) → t ≡ leaf → Halved μ m t at m leaf leaf
-  none_halved {m} {link} {t} held at is = record {
-    frame = frame_none m (uses t);
-    front = sym (ap (λ (z : Tree). take at (slots z)) is ∙ take-nil {A = ℕ} at);
-    back = sym (ap (λ (z : Tree). drop at (slots z)) is ∙ drop-nil {A = ℕ} at);
-    keeps = λ w fair h. (tt, tt);
-  }
-
 -- The last slot of a tree, cut off from the others.
 last_alone : (z : Tree) (k : ℕ) → Some k ≡ root z → length (slots z) ≡ 1 → slots z ≡ k ∷ []
 last_alone leaf k e h = let y : ◌≡◌ {A = ℕ} 0 1 = cc in let no : ⊥ = omega arith in absurd no
@@ -149,13 +140,6 @@ here_of w m (node l i r) k e (here, _) =
 module _ {R : Type 0} {m : Memory R} {first : Option ℕ} {a : Tree} {rest : Option ℕ} {b : Tree} (apart : Apart m first a rest b) where
   pub held_first : Held m first a
   held_first = record { roomy = apart.roomy; root_is = apart.first_root; holds = apart.first_holds; once = λ j. omega (arith, apart.once j) }
-
-  pub append_none : {μ : Measure R} → length (slots a) ≡ 0 → Appended μ m a b m b
-  append_none none = record {
-    frame = frame_none m _;
-    order = ap (λ z. z ++ slots b) (sym (nil_from_length (slots a) none));
-    keeps = λ w fair ha hb. hb;
-  }
 
   module _ {μ : Measure R} (at : ℕ) (is : suc at ≡ length (slots a)) {m₁ : Memory R} {f z : Tree} (cut : Halved μ m a at m₁ f z) where
     last_one : length (slots z) ≡ 1
