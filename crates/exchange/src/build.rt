@@ -12,6 +12,7 @@ use meter::Meter;
 use slots::memory::Memory;
 
 // Where the k-th of `count` chunks of so many bytes begins.
+#[tactic(auto, unfolding(chunks::specs::Cut::begin))]
 fn begin(bytes: usize, count: usize, k: usize) -> usize
     requires some { 0 < count }
     requires within { k ≤ count }
