@@ -54,9 +54,10 @@ fn extent_over<R: Copy>(memory: &Memory<R>, left: Option<u16>, i: u16, right: Op
     let before = extent(memory, left);
     let behind = extent(memory, right);
     let slots = &*memory.slots;
+    let size = slots[i as usize].size as u32;
     Extent {
         height: 1 + before.height.max(behind.height),
-        bytes: before.bytes + slots[i as usize].size as u32 + behind.bytes,
+        bytes: before.bytes + size + behind.bytes,
         chunks: before.chunks + 1 + behind.chunks,
     }
 }

@@ -12,6 +12,7 @@ use meter::Meter;
 use slots::memory::Memory;
 
 // Where the k-th of `count` chunks of so many bytes begins.
+#[tactic(auto, unfolding(chunks::specs::Cut::begin))]
 fn begin(bytes: usize, count: usize, k: usize) -> usize
     requires some { 0 < count }
     requires within { k ≤ count }
@@ -21,6 +22,7 @@ fn begin(bytes: usize, count: usize, k: usize) -> usize
 }
 
 // The k-th of the `count` chunks that `bytes` are cut into.
+#[tactic(auto, using(chunks::proofs::Cut::begin_within, chunks::proofs::Cut::begin_grows))]
 pub fn chunk(bytes: &[u8], count: usize, k: usize) -> &[u8]
     requires { k < count }
     ensures { result.now ≡ chunk_at bytes.now count k }

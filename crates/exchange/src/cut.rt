@@ -23,6 +23,7 @@ impl<'a> Cut<'a> {
     }
 
     // The k-th of the chunks.
+    #[tactic(auto, using(chunks::proofs::Cut::chunk_fits))]
     pub fn chunk(&self, k: usize) -> &'a [u8]
         requires { k < self.now.count }
         ensures bytes { result.now ≡ chunk_at self.now.bytes.now self.now.count k }

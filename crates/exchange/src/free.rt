@@ -20,6 +20,7 @@ fn next<R: Copy>(memory: &Memory<R>, i: u16) -> Option<u16>
 }
 
 // Takes the first free slot; there is one.
+#[tactic(auto, using(chunks::proofs::Footprint::first_below))]
 pub fn take<R: Copy>(memory: &mut Memory<R>) -> u16
     requires { (i : ℕ) × ((is : List ℕ) × Idle memory.old (i ∷ is)) }
     ensures first { (i : ℕ) (is : List ℕ) → Idle memory.old (i ∷ is) → result ≡ i }

@@ -44,10 +44,10 @@ idle_rest {m} {is} idle n {after} there stack = record {
       (omega (arith, idle.once j, count_append (take n is) (drop n is) j, ap (λ l. count l j) (take-append-drop n is)));
 }
 
-pub built_none : {R : Type 0} (μ : Measure R) {m : Memory R} {is : List ℕ} → Idle m is → Built μ m is 0 [] m leaf
-built_none μ {m} idle = record { elsewhere = elsewhere_none m _; stack = idle.stack; used = λ j. refl; chunks_are = refl; holds = λ w fair. tt }
+pub built_none : {R : Type 0} {μ : Measure R} {m : Memory R} {is : List ℕ} → Idle m is → Built μ m is 0 [] m leaf
+built_none {m = m} idle = record { elsewhere = elsewhere_none m _; stack = idle.stack; used = λ j. refl; chunks_are = refl; holds = λ w fair. tt }
 
-module _ {R : Type 0} (μ : Measure R) {m : Memory R} {is : List ℕ} (idle : Idle m is) (h r : ℕ) (enough : h + suc r ≤ length is)
+module _ {R : Type 0} {μ : Measure R} {m : Memory R} {is : List ℕ} (idle : Idle m is) {n : ℕ} (room : n ≤ length is) (h r : ℕ) (cut-is : n ≡ h + suc r)
     {cs : List (List ℕ)} {m₁ : Memory R} {a : Tree} (left : Built μ m is h cs m₁ a) where
   i : ℕ
   i = get_or is h 0
@@ -112,9 +112,9 @@ module _ {R : Type 0} (μ : Measure R) {m : Memory R} {is : List ℕ} (idle : Id
       unfolding i js
       own_chunk = right.elsewhere.chunk_same (get_or is h 0) own_apart (subst (λ z. z ≤ 64) (sym own.size_is) fits.few_bytes) ∙ own.chunk_is
 
-      pub built_ready : (first rest : Option ℕ) → first ≡ root a → rest ≡ root b → Ready m₃ first a (get_or is h 0) rest b
+      ready_at : {first rest : Option ℕ} → first ≡ root a → rest ≡ root b → Ready m₃ first a (get_or is h 0) rest b
       unfolding i js
-      built_ready first rest e f = record {
+      ready_at e f = record {
         roomy = roomy_elsewhere m m₃ _ last idle.roomy;
         known = subst (λ z. get_or is h 0 < z) (sym later.usable) (first_below m₁.usable (get_or is h 0) (drop (h + 1) is) second_idle.once);
         near_root = e;
@@ -126,9 +126,13 @@ module _ {R : Type 0} (μ : Measure R) {m : Memory R} {is : List ℕ} (idle : Id
         few_bytes = subst (λ z. z ≤ 64) (sym own_size) fits.few_bytes;
       }
 
-      pub built_joined : {m₄ : Memory R} {t : Tree} → Joined μ Left m₃ a (get_or is h 0) b m₄ t → Built μ m is (h + suc r) (cs ++ (bytes ∷ ds)) m₄ t
+      pub built_ready : {k : ℕ} → k ≡ get_or is h 0 → {first rest : Option ℕ} → first ≡ root a → rest ≡ root b → Ready m₃ first a k rest b
+      built_ready k-is {first} {rest} e f = subst (λ z. Ready m₃ first a z rest b) (sym k-is) (ready_at e f)
+
+      pub built_joined : {k : ℕ} → k ≡ get_or is h 0 → {m₄ : Memory R} {t : Tree} → Joined μ Left m₃ a k b m₄ t → Built μ m is (h + suc r) (cs ++ (bytes ∷ ds)) m₄ t
       unfolding i js
-      built_joined {m₄} {t} joined =
+      built_joined k-is {m₄} {t} joined-at =
+          let joined = subst (λ z. Joined μ Left m₃ a z b m₄ t) k-is joined-at in
           let used : (j : ℕ) → uses t j ≡ uses a j + (one (get_or is h 0) j + uses b j) = λ j. ap (λ l. count l j) joined.order ∙ count_append (slots a) (get_or is h 0 ∷ slots b) j in
           let taken : (j : ℕ) → count (take (h + suc r) is) j ≡ count (take h is) j + (one (get_or is h 0) j + count (take r (drop (h + 1) is)) j) =
           λ j. ap (λ l. count l j) (take_both is h _ _ r next (omega arith)) ∙ count_append (take h is) (get_or is h 0 ∷ take r (drop (h + 1) is)) j

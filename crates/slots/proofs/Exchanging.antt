@@ -20,7 +20,7 @@ parted_free {m} {a} {b} {is} p =
     let all = all_below m.usable (slots a ++ (slots b ++ is)) (λ j. omega (arith, p.all j, count_append (slots a) (slots b ++ is) j, count_append (slots b) is j)) in
     omega (arith, length-append (slots a) (slots b ++ is), length-append (slots b) is)
 
-module _ {R : Type 0} (μ : Measure R) {m : Memory R} (t : Tree) {from to : ℕ} (order : from ≤ to) (within : to ≤ length (chunks_of m t)) (bytes : List ℕ)
+module _ {R : Type 0} {μ : Measure R} {m : Memory R} (t : Tree) {from to : ℕ} (order : from ≤ to) (within : to ≤ length (chunks_of m t)) (bytes : List ℕ)
     (fits : length (chunks_of m t) - (to - from) + needed (length bytes) ≤ m.usable)
     {m₁ : Memory R} {first : Option ℕ} {a : Tree} {rest : Option ℕ} {b : Tree} {is : List ℕ} (parted : Parted m₁ first a rest b is) (removed : Removed μ m t from to m₁ a b) where
   -- There are slots enough.

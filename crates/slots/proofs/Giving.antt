@@ -1,22 +1,19 @@
 -- Giving the slots of a tree back: those of the left side, those of the right side, the slot on top.
 use Rattle.std.proofs.Common.{◌≡◌, ℕ, ◌+◌, ◌<◌, ◌≤◌, List, Some, Option, sym, subst, arith}
-use Rattle.chunks.specs.Tree.{Tree, leaf, node, root}
+use Rattle.chunks.specs.Tree.{Tree, node, root}
 use Rattle.chunks.specs.Footprint.{one, count, uses, below}
 use Rattle.chunks.proofs.Footprint.{uses_node, below_few}
 use Rattle.slots.specs.declared.memory.Memory.{Memory}
 use Rattle.slots.specs.View.{next_of, Roomy}
 use Rattle.slots.specs.Split.{Held}
 use Rattle.slots.specs.Free.{Stack, Idle, Elsewhere, freed}
-use Rattle.slots.proofs.Elsewhere.{elsewhere_trans, elsewhere_more, elsewhere_none, roomy_elsewhere, stack_elsewhere, held_elsewhere, count_freed}
+use Rattle.slots.proofs.Elsewhere.{elsewhere_trans, elsewhere_more, roomy_elsewhere, stack_elsewhere, held_elsewhere, count_freed}
 
 module _ {R : Type 0} where
   -- What giving back a tree says of memory.
   abbrev pub GivenBack : Memory R → Tree → Memory R → Type 0
   GivenBack m t after =
       Elsewhere m after (uses t) × ((is : List ℕ) → Idle m is → ((j : ℕ) → uses t j + count is j ≤ below m.usable j) → Stack after after.free (freed t is))
-
-  pub given_none : (m : Memory R) (t : Tree) → t ≡ leaf → GivenBack m t m
-  given_none m t e = (elsewhere_none m (uses t), λ is idle apart. subst (λ (z : Tree). Stack m m.free (freed z is)) (sym e) idle.stack)
 
   module _ {m : Memory R} {link : Option ℕ} {l : Tree} {i : ℕ} {r : Tree} (held : Held m link (node l i r)) (m₁ : Memory R) (first : GivenBack m l m₁) where
     pub right_held : (right : Option ℕ) → right ≡ root r → Held m₁ right r

@@ -1,19 +1,19 @@
 -- What follows from a tree that memory holds: it is balanced and low, it stays under a frame, its root is known.
-use Rattle.std.proofs.Common.{◌≡◌, ℕ, ◌+◌, ◌*◌, ◌≤◌, List, ◌∷◌, ◌++◌, length, sym, ap, ◌∙◌, subst, arith}
+use Rattle.std.proofs.Common.{◌≡◌, ℕ, ◌+◌, ◌*◌, ◌<◌, ◌≤◌, List, ◌∷◌, ◌++◌, length, Option, sym, ap, ◌∙◌, subst, arith}
 use Rattle.std.proofs.lemmas.List.{length-append}
-use Rattle.chunks.specs.Tree.{Tree, leaf, node, slots, height, Balanced}
+use Rattle.chunks.specs.Tree.{Tree, leaf, node, slots, root, height, Balanced}
 use Rattle.chunks.specs.Footprint.{one, uses, below}
-use Rattle.chunks.proofs.Footprint.{one_same, uses_node, few_below}
+use Rattle.chunks.proofs.Footprint.{few_below}
 use Rattle.chunks.proofs.Balance.{low_if_balanced}
 use Rattle.slots.specs.declared.memory.Memory.{Memory}
-use Rattle.slots.specs.declared.slot.Slot.{Slot}
-use Rattle.slots.specs.Claim.{Claim}
-use Rattle.slots.specs.View.{chunk_of, text_of, Roomy}
-use Rattle.slots.specs.Holds.{Here, Holds, Owned}
+use Rattle.slots.specs.Claim.{Claim, nothing}
+use Rattle.slots.specs.View.{size_of, chunk_of, text_of, Roomy}
+use Rattle.slots.specs.Holds.{Holds, Owned, Ready}
 use Rattle.slots.specs.Frame.{Frame}
 use Rattle.slots.proofs.Says.{says_same}
 use Rattle.slots.proofs.Text.{text_node, chunk_length}
-use Rattle.slots.proofs.Frame.{chunk_same, size_same, text_same, extent_same, own_same}
+use Rattle.slots.proofs.Frame.{chunk_same, size_same, own_same, roomy_same}
+use Rattle.slots.proofs.Elsewhere.{elsewhere_frame, holds_elsewhere}
 
 module _ {R : Type 0} where
   pub balanced_held : (w : Claim R) (m : Memory R) (t : Tree) → Holds w m t → Balanced t
@@ -35,37 +35,25 @@ module _ {R : Type 0} where
       let few = here.few_bytes in
       omega (arith, short_held w m roomy l hl, short_held w m roomy r hr)
 
-  -- What a slot says stays where the slot is not touched.
-  here_frame : (w : Claim R) (m n : Memory R) (f : ℕ → ℕ) → Frame m n f → (l : Tree) (i : ℕ) (r : Tree) → f i ≡ 0 → Here w m l i r → Here w n l i r
-  here_frame w m n f p l i r apart here =
-      let t = node l i r in
-      let u = p.usable in
-      let k = here.known in
-      record {
-        known = omega arith;
-        some_byte = subst (λ z. 1 ≤ z) (sym (size_same m n f p i)) here.some_byte;
-        few_bytes = subst (λ z. z ≤ 64) (sym (size_same m n f p i)) here.few_bytes;
-        level = here.level;
-        placed = λ d.
-            let same = p.slots_apart i apart d in
-            let was = here.placed d in
-            record {
-              left = ap (λ (s : Slot R). s.node.left) same ∙ was.left;
-              right = ap (λ (s : Slot R). s.node.right) same ∙ was.right;
-              extent = ap (λ (s : Slot R). s.node.extent) same ∙ was.extent ∙ sym (extent_same m n f p t);
-              own = says_same w _ _ _ _ (sym (own_same m n f p i d)) (sym (ap (λ (c : ℕ → List ℕ). c i) (chunk_same m n f p))) was.own;
-            };
-        summed = λ d. says_same w _ _ _ _ (sym (p.readings_apart i apart d)) (sym (text_same m n f p t)) (here.summed d);
-      }
-
   pub holds_frame : (w : Claim R) (m n : Memory R) (f : ℕ → ℕ) → Frame m n f → (t : Tree) → ((j : ℕ) → uses t j + f j ≤ 1) → Holds w m t → Holds w n t
-  holds_frame w m n f p leaf apart h = tt
-  holds_frame w m n f p (node l i r) apart (here, (hl, hr)) =
-      let each : (j : ℕ) → uses l j + (one i j + uses r j) + f j ≤ 1 = λ j. omega (arith, apart j, uses_node l i r j) in
-      let here-apart : f i ≡ 0 = omega (arith, each i, one_same i) in (
-        here_frame w m n f p l i r here-apart here,
-        (holds_frame w m n f p l (λ j. omega (arith, each j)) hl, holds_frame w m n f p r (λ j. omega (arith, each j)) hr),
-      )
+  holds_frame w m n f p t apart h = holds_elsewhere m n f (elsewhere_frame m n f p) w t apart h
 
   pub owned_frame : (w : Claim R) (m n : Memory R) (f : ℕ → ℕ) → Frame m n f → (i : ℕ) → Owned w m i → Owned w n i
   owned_frame w m n f p i owned = record { own = λ d. says_same w _ _ _ _ (sym (own_same m n f p i d)) (sym (ap (λ (c : ℕ → List ℕ). c i) (chunk_same m n f p))) (owned.own d) }
+
+  -- A slot can be put between two trees after a frame, if it could be used before.
+  pub ready_frame : (m n : Memory R) (f : ℕ → ℕ) → Frame m n f → Roomy m → (i : ℕ) → (i < m.usable) × ((1 ≤ size_of m i) × (size_of m i ≤ 64)) → {near far : Option ℕ} {a b : Tree} → near ≡ root a → far ≡ root b →
+      Holds nothing n a → Holds nothing n b → ((j : ℕ) → uses a j + (one i j + uses b j) ≤ below m.usable j) → Ready n near a i far b
+  ready_frame m n f p roomy i own {near} {far} {a} {b} e g ha hb once =
+      let size = size_same m n f p i in
+      record {
+        roomy = roomy_same m n f p roomy;
+        known = subst (λ z. i < z) (sym p.usable) own.0;
+        near_root = e;
+        far_root = g;
+        near_holds = ha;
+        far_holds = hb;
+        once = λ j. subst (λ z. uses a j + (one i j + uses b j) ≤ below z j) (sym p.usable) (once j);
+        some_byte = subst (λ z. 1 ≤ z) (sym size) own.1.0;
+        few_bytes = subst (λ z. z ≤ 64) (sym size) own.1.1;
+      }

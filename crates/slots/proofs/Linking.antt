@@ -19,6 +19,10 @@ use Rattle.slots.proofs.Text.{text_node, chunk_length}
 use Rattle.slots.proofs.Frame.{size_same, text_same, extent_same}
 use Rattle.slots.proofs.Holds.{low_held, short_held, holds_frame, owned_frame}
 
+-- What a tree's extent says, number by number.
+extent_says : {R : Type 0} (m : Memory R) (t : Tree) {e : Extent} → e ≡ extent_of m t → (e.height ≡ height t) × ((e.bytes ≡ length (text_of m t)) × (e.chunks ≡ length (slots t)))
+extent_says m t p = (ap (λ (x : Extent). x.height) p, (ap (λ (x : Extent). x.bytes) p, ap (λ (x : Extent). x.chunks) p))
+
 module _ {R : Type 0} {m : Memory R} {near : Option ℕ} {a : Tree} {i : ℕ} {far : Option ℕ} {b : Tree} (ready : Ready m near a i far b) where
   -- There are at most 4,096 slots in all, and both trees are low.
   pub ready_few : length (slots a) + suc (length (slots b)) ≤ 4096
@@ -43,23 +47,15 @@ module _ {R : Type 0} {m : Memory R} {near : Option ℕ} {a : Tree} {i : ℕ} {f
     pub over_fits : (top ≤ 16) × ((e.bytes + size + f.bytes ≤ 262144) × (e.chunks + 1 + f.chunks ≤ 4096))
     over_fits =
         let few_bytes = ready.few_bytes in
-        let eh = ap (λ (x : Extent). x.height) p in
-        let fh = ap (λ (x : Extent). x.height) q in
-        let eb = ap (λ (x : Extent). x.bytes) p in
-        let fb = ap (λ (x : Extent). x.bytes) q in
-        let ec = ap (λ (x : Extent). x.chunks) p in
-        let fc = ap (λ (x : Extent). x.chunks) q in
+        let near = extent_says m a p in
+        let far = extent_says m b q in
         (omega (arith, ready_near_low, ready_far_low), (omega (arith, ready_few, ready_near_short, ready_far_short), omega (arith, ready_few)))
 
     -- The extent of both trees with the slot between them.
     pub extent_over : record { height = 1 + top; bytes = e.bytes + size + f.bytes; chunks = e.chunks + 1 + f.chunks } ≡ extent_of m (node a i b)
     extent_over =
-        let eh = ap (λ (x : Extent). x.height) p in
-        let fh = ap (λ (x : Extent). x.height) q in
-        let eb = ap (λ (x : Extent). x.bytes) p in
-        let fb = ap (λ (x : Extent). x.bytes) q in
-        let ec = ap (λ (x : Extent). x.chunks) p in
-        let fc = ap (λ (x : Extent). x.chunks) q in
+        let near = extent_says m a p in
+        let far = extent_says m b q in
         let long = ap length (text_node m a i b) ∙ length-append (text_of m a) (chunk_of m i ++ text_of m b) in
         let rest = length-append (chunk_of m i) (text_of m b) in
         let own = chunk_length m ready.roomy i ready.known ready.few_bytes in

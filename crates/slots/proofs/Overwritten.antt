@@ -17,8 +17,9 @@ use Rattle.slots.specs.Sound.{Kept, chunks_in}
 use Rattle.slots.specs.Rewrite.{Rewritten}
 use Rattle.slots.proofs.Elsewhere.{roomy_elsewhere, stack_elsewhere}
 use Rattle.slots.proofs.Reading.{tree_is}
+use Rattle.slots.proofs.Replacing.{same_size}
 
-module _ {R : Type 0} (μ : Measure R) {m : Memory R} {link : Option ℕ} (t : Tree) {is : List ℕ} (whole : Whole m link t is) (bytes : List ℕ) (from : ℕ) (within : from + needed (length bytes) ≤ length (chunks_of m t))
+module _ {R : Type 0} {μ : Measure R} {m : Memory R} {link : Option ℕ} (t : Tree) {is : List ℕ} (whole : Whole m link t is) (bytes : List ℕ) (from : ℕ) (within : from + needed (length bytes) ≤ length (chunks_of m t))
     {after : Memory R} (done : Rewritten μ m t 0 bytes (needed (length bytes)) from (from + needed (length bytes)) after) where
   pub overwritten_whole : Whole after link t is
   overwritten_whole = record {
@@ -45,9 +46,4 @@ module _ {R : Type 0} (μ : Measure R) {m : Memory R} {link : Option ℕ} (t : T
   overwritten_kept h = subst (Holds (kept μ) after) (sym (tree_is overwritten_whole)) (done.keeps (kept μ) refl h)
 
   pub overwritten_size : SameSize m after
-  overwritten_size = record {
-    usable = done.elsewhere.usable;
-    slot_count = done.elsewhere.slot_count;
-    reading_count = done.elsewhere.reading_count;
-    store_count = done.elsewhere.store_count;
-  }
+  overwritten_size = same_size done.elsewhere

@@ -1,6 +1,6 @@
 -- Bytes copied one part behind another.
-use Rattle.std.proofs.Common.{◌≡◌, ℕ, ◌+◌, ◌≤◌, List, [], ◌++◌, length, take, drop, sym, ap, ◌∙◌, append_assoc, arith}
-use Rattle.std.proofs.lemmas.List.{length-append, length-take-le, length-drop, take_at, drop-drop, take-append-drop}
+use Rattle.std.proofs.Common.{◌≡◌, ℕ, ◌+◌, ◌≤◌, List, ◌++◌, length, take, drop, sym, ap, ◌∙◌, append_assoc, arith}
+use Rattle.std.proofs.lemmas.List.{length-append, length-take-le, length-drop, take_at, drop-drop}
 use Rattle.slots.specs.Copy.{pasted, Copied}
 use Rattle.std.proofs.Math.Seq.{drop-append-add}
 
@@ -32,14 +32,6 @@ module _ (out xs : List ℕ) (at : ℕ) (room : at + length xs ≤ length out) w
       ∙ ap (λ k. (take at out ++ xs) ++ (ys ++ drop k out)) long
       ∙ append_assoc (take at out) xs (ys ++ drop (at + length (xs ++ ys)) out)
       ∙ ap (λ l. take at out ++ l) (sym (append_assoc xs ys (drop (at + length (xs ++ ys)) out)))
-
-pub copied_none : (out : List ℕ) (at : ℕ) (bytes : List ℕ) → bytes ≡ [] → at ≤ length out → Copied bytes out at out at
-copied_none out at bytes none within =
-    let e : at ≡ at + 0 = omega arith in
-    record {
-      end_is = e ∙ ap (λ (l : List ℕ). at + length l) (sym none);
-      after_is = sym (take-append-drop at out) ∙ ap (λ n. take at out ++ drop n out) e ∙ ap (λ (l : List ℕ). pasted out at l) (sym none);
-    }
 
 pub copied_two : (out xs ys : List ℕ) (at : ℕ) (mid after : List ℕ) (m e : ℕ) → at + length (xs ++ ys) ≤ length out → Copied xs out at mid m → Copied ys mid m after e → Copied (xs ++ ys) out at after e
 copied_two out xs ys at mid after m e room p q =

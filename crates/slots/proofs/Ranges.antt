@@ -1,33 +1,9 @@
 -- Ranges of lists: over `++`, and clipped to what is there.
-use Rattle.std.proofs.Common.{◌≡◌, ℕ, zero, suc, ◌+◌, ◌-◌, ◌≤◌, min, List, [], ◌∷◌, ◌++◌, length, take, drop, sym, ap, ◌∙◌, ⊎_elim, arith}
+use Rattle.std.proofs.Common.{◌≡◌, ℕ, zero, suc, ◌-◌, ◌≤◌, List, [], ◌∷◌, ◌++◌, length, take, drop, sym, ap, ◌∙◌, ⊎_elim, arith}
 use Rattle.std.specs.List.{between}
-use Rattle.std.proofs.lemmas.List.{take-take, take_all, drop_all, drop-drop, length-take, length-drop, nil_from_length}
+use Rattle.std.proofs.lemmas.List.{take_all, drop_all, length-take, length-drop, nil_from_length}
 use Rattle.std.proofs.lemmas.Slice.{between_is}
 use Rattle.std.proofs.lemmas.Bool.{cases_lt}
-
-take_min : (t s : ℕ) (xs : List ℕ) → take t (take s xs) ≡ take (min t s) xs
-take_min t s xs =
-    ⊎_elim (λ h. let e : t ≡ min t s = omega arith in take-take t s xs (omega arith) ∙ ap (λ n. take n xs) e)
-    (λ h. let e : s ≡ min t s = omega arith in take_all t (take s xs) (omega (arith, length-take s xs)) ∙ ap (λ n. take n xs) e)
-    (cases_lt t s)
-
-drop_min : (f e : ℕ) (xs : List ℕ) → length xs ≤ e → drop f xs ≡ drop (min f e) xs
-drop_min f e xs short =
-    ⊎_elim (λ h. let same : f ≡ min f e = omega arith in ap (λ n. drop n xs) same)
-    (λ h. drop_all f xs (omega arith) ∙ sym (drop_all (min f e) xs (omega arith)))
-    (cases_lt f e)
-
--- A range of the first s elements.
-pub between_clipped : (f t s : ℕ) (xs : List ℕ) → between f t (take s xs) ≡ between (min f (min t s)) (min t s) xs
-between_clipped f t s xs =
-    between_is (take s xs) f t
-    ∙ ap (drop f) (take_min t s xs)
-    ∙ drop_min f (min t s) (take (min t s) xs) (omega (arith, length-take (min t s) xs))
-    ∙ sym (between_is xs (min f (min t s)) (min t s))
-
--- A range from a on, seen from there.
-pub between_from : (a b e : ℕ) (xs : List ℕ) → take (a + e - (a + b)) (drop (a + b) xs) ≡ between b e (drop a xs)
-between_from a b e xs = let long : a + e - (a + b) ≡ e - b = omega arith in ap (λ n. take n (drop (a + b) xs)) long ∙ ap (take (e - b)) (sym (drop-drop b a xs))
 
 -- The first elements of two lists, one behind the other, and what lies behind them.
 pub take_over : (t : ℕ) (xs ys : List ℕ) → take t (xs ++ ys) ≡ take t xs ++ take (t - length xs) ys
@@ -67,14 +43,3 @@ between_none f t xs h = nil_from_length (between f t xs) (omega (arith, length-t
 
 pub between_past : (f t : ℕ) (xs : List ℕ) → length xs ≤ f → between f t xs ≡ []
 between_past f t xs h = nil_from_length (between f t xs) (omega (arith, length-take (t - f) (drop f xs), length-drop f xs))
-
--- A range is no longer than its ends are apart.
-pub between_short : (f t : ℕ) (xs : List ℕ) → length (between f t xs) ≤ t - f
-between_short f t xs = omega (arith, length-take (t - f) (drop f xs))
-
--- A range within the list is as long as its ends are apart, and a range at all is no longer than what is left.
-pub between_long : (f t : ℕ) (xs : List ℕ) → t ≤ length xs → length (between f t xs) ≡ t - f
-between_long f t xs h = omega (arith, length-take (t - f) (drop f xs), length-drop f xs)
-
-pub between_left : (f t : ℕ) (xs : List ℕ) → length (between f t xs) ≤ length xs - f
-between_left f t xs = omega (arith, length-take (t - f) (drop f xs), length-drop f xs)

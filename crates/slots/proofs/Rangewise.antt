@@ -1,19 +1,15 @@
 -- How large a tree in memory can be, the reading that is kept at its top, and three readings joined.
-use Rattle.std.proofs.Common.{◌≡◌, ℕ, ◌+◌, ◌-◌, ◌≤◌, List, ◌++◌, length, get_or, Some, Option, sym, ap, ◌∙◌, append_assoc, arith}
-use Rattle.std.specs.List.{between}
-use Rattle.std.proofs.lemmas.List.{length-append}
+use Rattle.std.proofs.Common.{◌≡◌, ℕ, ◌≤◌, List, ◌++◌, length, get_or, Some, Option, sym, ap, ◌∙◌, append_assoc, arith}
 use Rattle.measure.specs.Measure.{Measure, reading, Lawful}
 use Rattle.measure.proofs.Measure.{reading_append}
 use Rattle.chunks.specs.Tree.{Tree, leaf, node, root, slots}
 use Rattle.chunks.proofs.Footprint.{few_below}
 use Rattle.slots.specs.declared.memory.Memory.{Memory}
 use Rattle.slots.specs.Claim.{nothing, kept}
-use Rattle.slots.specs.View.{chunk_of, text_of}
+use Rattle.slots.specs.View.{text_of}
 use Rattle.slots.specs.Holds.{Holds}
 use Rattle.slots.specs.Split.{Held}
-use Rattle.slots.proofs.Text.{text_node}
 use Rattle.slots.proofs.Holds.{short_held}
-use Rattle.slots.proofs.Ranges.{between_append}
 
 -- The text of a tree is not too long to count.
 pub text_short : {R : Type 0} {m : Memory R} {link : Option ℕ} {t : Tree} → Held m link t → length (text_of m t) ≤ 262144

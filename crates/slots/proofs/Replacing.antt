@@ -21,12 +21,15 @@ use Rattle.slots.proofs.Elsewhere.{elsewhere_frame, roomy_elsewhere, stack_elsew
 use Rattle.slots.proofs.Splitting.{halved_uses}
 use Rattle.slots.proofs.Giving.{GivenBack}
 
-module _ {R : Type 0} where
-  size_frame : {m n : Memory R} {f : ℕ → ℕ} → Frame m n f → SameSize m n
-  size_frame p = record { usable = p.usable; slot_count = p.slot_count; reading_count = p.reading_count; store_count = ap length p.store }
+pub held_whole : {R : Type 0} {m : Memory R} {link : Option ℕ} {t : Tree} {is : List ℕ} → Whole m link t is → Held m link t
+held_whole whole = record { roomy = whole.roomy; root_is = whole.root_is; holds = whole.holds; once = λ j. omega (arith, whole.all j) }
 
-  size_elsewhere : {m n : Memory R} {f : ℕ → ℕ} → Elsewhere m n f → SameSize m n
-  size_elsewhere p = record { usable = p.usable; slot_count = p.slot_count; reading_count = p.reading_count; store_count = p.store_count }
+module _ {R : Type 0} where
+  pub same_size : {m n : Memory R} {f : ℕ → ℕ} → Elsewhere m n f → SameSize m n
+  same_size p = record { usable = p.usable; slot_count = p.slot_count; reading_count = p.reading_count; store_count = p.store_count }
+
+  size_frame : {m n : Memory R} {f : ℕ → ℕ} → Frame m n f → SameSize m n
+  size_frame {m} {n} {f} p = same_size (elsewhere_frame m n f p)
 
   pub size_trans : {m n o : Memory R} → SameSize m n → SameSize n o → SameSize m o
   size_trans p q = record {
@@ -41,22 +44,20 @@ module _ {R : Type 0} where
   stack_frame {m} {n} {f} p is apart h = subst (λ (z : Option ℕ). Stack n z is) (sym p.free) (stack_elsewhere m n f (elsewhere_frame m n f p) m.free is apart h)
 
   -- Both parts of a tree that was cut.
-  module _ (μ : Measure R) {m : Memory R} {link : Option ℕ} {t : Tree} (held : Held m link t) {at : ℕ} {m₁ : Memory R} {a b : Tree} (halved : Halved μ m t at m₁ a b) where
-    pub held_front : (first : Option ℕ) → first ≡ root a → Held m₁ first a
-    held_front first e = record {
+  module _ {μ : Measure R} {m : Memory R} {link : Option ℕ} {t : Tree} (held : Held m link t) {at : ℕ} {m₁ : Memory R} {a b : Tree} (halved : Halved μ m t at m₁ a b) where
+    held_part : {x : Tree} → Holds nothing m₁ x → ((j : ℕ) → uses x j ≤ uses t j) → (link : Option ℕ) → link ≡ root x → Held m₁ link x
+    held_part {x} holds less link e = record {
       roomy = roomy_same m m₁ _ halved.frame held.roomy;
       root_is = e;
-      holds = (halved.keeps nothing tt held.holds).0;
-      once = λ j. subst (λ z. uses a j ≤ below z j) (sym halved.frame.usable) (omega (arith, held.once j, halved_uses μ halved j));
+      holds = holds;
+      once = λ j. subst (λ z. uses x j ≤ below z j) (sym halved.frame.usable) (omega (arith, held.once j, less j));
     }
 
+    pub held_front : (first : Option ℕ) → first ≡ root a → Held m₁ first a
+    held_front = held_part (halved.keeps nothing tt held.holds).0 (λ j. omega (arith, halved_uses halved j))
+
     pub held_back : (rest : Option ℕ) → rest ≡ root b → Held m₁ rest b
-    held_back rest e = record {
-      roomy = roomy_same m m₁ _ halved.frame held.roomy;
-      root_is = e;
-      holds = (halved.keeps nothing tt held.holds).1;
-      once = λ j. subst (λ z. uses b j ≤ below z j) (sym halved.frame.usable) (omega (arith, held.once j, halved_uses μ halved j));
-    }
+    held_back = held_part (halved.keeps nothing tt held.holds).1 (λ j. omega (arith, halved_uses halved j))
 
     front_chunks : chunks_of m₁ a ≡ take at (chunks_of m t)
     front_chunks = chunks_same m m₁ _ halved.frame a ∙ ap (map (chunk_of m)) halved.front ∙ sym (take-map (chunk_of m) at (slots t))
@@ -64,23 +65,20 @@ module _ {R : Type 0} where
     back_chunks : chunks_of m₁ b ≡ drop at (chunks_of m t)
     back_chunks = chunks_same m m₁ _ halved.frame b ∙ ap (map (chunk_of m)) halved.back ∙ sym (drop-map (chunk_of m) at (slots t))
 
-  module _ (μ : Measure R) {m : Memory R} {link : Option ℕ} {t : Tree} {is : List ℕ} (whole : Whole m link t is) where
-    pub whole_held : Held m link t
-    whole_held = record { roomy = whole.roomy; root_is = whole.root_is; holds = whole.holds; once = λ j. omega (arith, whole.all j) }
-
+  module _ {μ : Measure R} {m : Memory R} {link : Option ℕ} {t : Tree} {is : List ℕ} (whole : Whole m link t is) where
     module _ (from to : ℕ) (order : from ≤ to) {m₁ : Memory R} {a r : Tree} (first : Halved μ m t from m₁ a r) (behind : Option ℕ) (behind-root : behind ≡ root r)
         {m₂ : Memory R} {mid b : Tree} (second : Halved μ m₁ r (to - from) m₂ mid b) {m₃ : Memory R} (third : GivenBack m₂ mid m₃) where
       rest_held : Held m₁ behind r
-      rest_held = held_back μ whole_held first behind behind-root
+      rest_held = held_back (held_whole whole) first behind behind-root
 
       each : (j : ℕ) → uses a j + (uses mid j + uses b j) + count is j ≡ below m.usable j
-      each j = omega (arith, whole.all j, halved_uses μ first j, halved_uses μ second j)
+      each j = omega (arith, whole.all j, halved_uses first j, halved_uses second j)
 
       idle : Idle m₂ is
       idle = record {
         roomy = roomy_same m₁ m₂ _ second.frame rest_held.roomy;
         stack =
-            stack_frame second.frame is (λ j. omega (arith, each j, halved_uses μ second j, below_few m.usable j))
+            stack_frame second.frame is (λ j. omega (arith, each j, halved_uses second j, below_few m.usable j))
             (stack_frame first.frame is (λ j. omega (arith, whole.all j, below_few m.usable j)) whole.stack);
         once = λ j. subst (λ z. count is j ≤ below z j) (sym (second.frame.usable ∙ first.frame.usable)) (omega (arith, each j));
       }
@@ -88,7 +86,7 @@ module _ {R : Type 0} where
       first_stays : (w : Claim R) → Holds w m₁ a → Holds w m₃ a
       first_stays w h =
           holds_elsewhere m₂ m₃ _ third.0 w a (λ j. omega (arith, each j, below_few m.usable j))
-          (holds_frame w m₁ m₂ _ second.frame a (λ j. omega (arith, each j, halved_uses μ second j, below_few m.usable j)) h)
+          (holds_frame w m₁ m₂ _ second.frame a (λ j. omega (arith, each j, halved_uses second j, below_few m.usable j)) h)
 
       rest_stays : (w : Claim R) → Holds w m₂ b → Holds w m₃ b
       rest_stays w h = holds_elsewhere m₂ m₃ _ third.0 w b (λ j. omega (arith, each j, below_few m.usable j)) h
@@ -114,27 +112,27 @@ module _ {R : Type 0} where
 
       pub removed : Removed μ m t from to m₃ a b
       removed = record {
-        same_size = size_trans (size_frame first.frame) (size_trans (size_frame second.frame) (size_elsewhere third.0));
+        same_size = size_trans (size_frame first.frame) (size_trans (size_frame second.frame) (same_size third.0));
         before =
             chunks_elsewhere m₂ m₃ _ third.0 nothing a (λ j. omega (arith, each j, below_few m.usable j))
-            (holds_frame nothing m₁ m₂ _ second.frame a (λ j. omega (arith, each j, halved_uses μ second j, below_few m.usable j)) (first.keeps nothing tt whole.holds).0)
+            (holds_frame nothing m₁ m₂ _ second.frame a (λ j. omega (arith, each j, halved_uses second j, below_few m.usable j)) (first.keeps nothing tt whole.holds).0)
             ∙ chunks_same m₁ m₂ _ second.frame a
-            ∙ front_chunks μ whole_held first;
+            ∙ front_chunks (held_whole whole) first;
         behind =
             let e : from + (to - from) ≡ to = omega arith in
             chunks_elsewhere m₂ m₃ _ third.0 nothing b (λ j. omega (arith, each j, below_few m.usable j)) (second.keeps nothing tt rest_held.holds).1
-            ∙ back_chunks μ rest_held second
-            ∙ ap (drop (to - from)) (back_chunks μ whole_held first)
+            ∙ back_chunks rest_held second
+            ∙ ap (drop (to - from)) (back_chunks (held_whole whole) first)
             ∙ drop-drop (to - from) from (chunks_of m t)
             ∙ ap (λ n. drop n (chunks_of m t)) e;
         keeps = both;
       }
 
-  module _ (μ : Measure R) {m : Memory R} {first : Option ℕ} {a : Tree} {rest : Option ℕ} {b : Tree} {is : List ℕ} (parted : Parted m first a rest b is) where
+  module _ {m : Memory R} {first : Option ℕ} {a : Tree} {rest : Option ℕ} {b : Tree} {is : List ℕ} (parted : Parted m first a rest b is) where
     pub parted_idle : Idle m is
     parted_idle = record { roomy = parted.roomy; stack = parted.stack; once = λ j. omega (arith, parted.all j) }
 
-    module _ (bytes : List ℕ) {m₁ : Memory R} {new : Tree} (built : Built μ m is (needed (length bytes)) (part bytes (needed (length bytes)) 0 (needed (length bytes))) m₁ new) where
+    module _ {μ : Measure R} (bytes : List ℕ) {m₁ : Memory R} {new : Tree} (built : Built μ m is (needed (length bytes)) (part bytes (needed (length bytes)) 0 (needed (length bytes))) m₁ new) where
       q : ℕ
       q = needed (length bytes)
 
@@ -216,7 +214,7 @@ module _ {R : Type 0} where
           pub filled : Filled μ m a b bytes m₃ y
           unfolding q
           filled = record {
-            same_size = size_trans (size_elsewhere built.elsewhere) (size_trans (size_frame front.frame) (size_frame done.frame));
+            same_size = size_trans (same_size built.elsewhere) (size_trans (size_frame front.frame) (size_frame done.frame));
             chunks_are =
                 ap (λ (c : ℕ → List ℕ). map c (slots y)) chunk_all
                 ∙ ap (map (chunk_of m₁)) in_order
@@ -227,6 +225,3 @@ module _ {R : Type 0} where
                 ∙ ap (λ l. chunks_of m a ++ (cut bytes ++ l)) (chunks_elsewhere m m₁ _ built.elsewhere nothing b b_apart parted.rest_holds);
             keeps = all_keeps;
           }
-
-pub held_whole : {R : Type 0} {m : Memory R} {link : Option ℕ} {t : Tree} {is : List ℕ} → Whole m link t is → Held m link t
-held_whole whole = record { roomy = whole.roomy; root_is = whole.root_is; holds = whole.holds; once = λ j. omega (arith, whole.all j) }

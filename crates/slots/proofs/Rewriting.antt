@@ -1,49 +1,26 @@
 -- What writing chunks over others rests on: the tree is as it was, and what its slots say is right again.
-use Rattle.std.proofs.Common.{◌≡◌, ℕ, suc, ◌+◌, ◌-◌, ◌<◌, ◌≤◌, ◌⊎◌, List, ◌∷◌, ◌++◌, length, Option, sym, refl, ap, ◌∙◌, subst, ⊎_elim, arith}
+use Rattle.std.proofs.Common.{◌≡◌, ℕ, suc, ◌+◌, ◌<◌, ◌≤◌, ◌⊎◌, List, ◌∷◌, ◌++◌, length, Option, sym, refl, ap, ◌∙◌, subst, ⊎_elim, arith}
 use Rattle.std.proofs.lemmas.List.{length-map}
-use Rattle.measure.specs.Measure.{Measure, reading}
+use Rattle.measure.specs.Measure.{Measure}
 use Rattle.chunks.specs.declared.side.Side.TheVariants.{Left}
 use Rattle.chunks.specs.Tree.{Tree, node, root, slots, Level}
 use Rattle.chunks.specs.Footprint.{one, uses, below}
-use Rattle.chunks.specs.Cut.{Chunk, chunk_at}
 use Rattle.chunks.specs.Over.{renewed, over}
 use Rattle.chunks.proofs.Footprint.{one_same, uses_node, below_few}
-use Rattle.chunks.proofs.Overwriting.{renewed_in, renewed_before, renewed_behind, over_append, over_before, over_behind}
+use Rattle.chunks.proofs.Overwriting.{over_append, over_before, over_behind}
 use Rattle.slots.specs.declared.memory.Memory.{Memory}
 use Rattle.slots.specs.Claim.{Claim, nothing, Fair}
 use Rattle.slots.specs.View.{size_of, chunk_of, chunks_of, Roomy}
 use Rattle.slots.specs.Holds.{Holds, Owned, Ready}
 use Rattle.slots.specs.Join.{Linked}
 use Rattle.slots.specs.Split.{Held}
-use Rattle.slots.specs.Free.{Elsewhere, Written}
+use Rattle.slots.specs.Free.{Elsewhere}
 use Rattle.slots.specs.Rewrite.{Renewed, Rewritten}
 use Rattle.slots.proofs.Frame.{chunks_same}
 use Rattle.slots.proofs.Text.{chunks_node}
-use Rattle.slots.proofs.Stacking.{says_measured}
 use Rattle.slots.proofs.Elsewhere.{elsewhere_trans, elsewhere_more, elsewhere_none, elsewhere_frame, size_elsewhere, roomy_elsewhere, chunks_elsewhere, holds_elsewhere, held_elsewhere, owned_elsewhere}
 
-module _ {R : Type 0} (μ : Measure R) {m : Memory R} (i n : ℕ) (bytes : List ℕ) (count from to : ℕ) where
-  pub renewed_not : 1 ≤ size_of m i → size_of m i ≤ 64 → (n < from) ⊎ ((from ≤ n) × (to ≤ n)) → Renewed μ m i n bytes count from to m
-  renewed_not some few out = record {
-    elsewhere = elsewhere_none m (one i);
-    free = refl;
-    chunk_is = sym (⊎_elim (λ h. renewed_before bytes count from to n (chunk_of m i) h) (λ h. renewed_behind bytes count from to n (chunk_of m i) h.1) out);
-    some_byte = some;
-    few_bytes = few;
-    keeps = λ w fair owned. owned;
-  }
-
-  pub renewed_written : from ≤ n → n < to → (new : List ℕ) → new ≡ chunk_at bytes count (n - from) → Chunk new → (own : R) → own ≡ reading μ new → (after : Memory R) → Written m i new own after → Renewed μ m i n bytes count from to after
-  renewed_written low high new is fits own measured after wrote = record {
-    elsewhere = wrote.elsewhere;
-    free = wrote.free;
-    chunk_is = wrote.chunk_is ∙ is ∙ sym (renewed_in bytes count from to n (chunk_of m i) low high);
-    some_byte = subst (λ z. 1 ≤ z) (sym wrote.size_is) fits.some_byte;
-    few_bytes = subst (λ z. z ≤ 64) (sym wrote.size_is) fits.few_bytes;
-    keeps = λ w fair _. record { own = λ d. says_measured μ w fair _ _ (wrote.own_is d ∙ measured ∙ ap (reading μ) (sym wrote.chunk_is)) };
-  }
-
-module _ {R : Type 0} (μ : Measure R) {m : Memory R} (t : Tree) (n : ℕ) (bytes : List ℕ) (count from to : ℕ) where
+module _ {R : Type 0} {μ : Measure R} {m : Memory R} (t : Tree) (n : ℕ) (bytes : List ℕ) (count from to : ℕ) where
   -- Outside the run nothing is to be done.
   pub rewritten_not : (n + length (slots t) ≤ from) ⊎ ((from < n + length (slots t)) × (to ≤ n)) → Rewritten μ m t n bytes count from to m
   rewritten_not out = record {
@@ -55,7 +32,7 @@ module _ {R : Type 0} (μ : Measure R) {m : Memory R} (t : Tree) (n : ℕ) (byte
     keeps = λ w fair h. h;
   }
 
-module _ {R : Type 0} (μ : Measure R) {m : Memory R} {link : Option ℕ} {l : Tree} {i : ℕ} {r : Tree} (held : Held m link (node l i r)) (n : ℕ) (bytes : List ℕ) (count from to : ℕ)
+module _ {R : Type 0} {μ : Measure R} {m : Memory R} {link : Option ℕ} {l : Tree} {i : ℕ} {r : Tree} (held : Held m link (node l i r)) (n : ℕ) (bytes : List ℕ) (count from to : ℕ)
     {m₁ : Memory R} (first : Rewritten μ m l n bytes count from to m₁) where
   each : (j : ℕ) → uses l j + (one i j + uses r j) ≤ below m.usable j
   each j = omega (arith, held.once j, uses_node l i r j)

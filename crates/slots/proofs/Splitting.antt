@@ -1,34 +1,28 @@
 -- What cutting a tree rests on: at a slot, one side is cut, and the slot joins what is left of it with the other side.
 use Rattle.std.proofs.Common.{◌≡◌, ℕ, suc, ◌+◌, ◌-◌, ◌<◌, ◌≤◌, List, [], ◌∷◌, ◌++◌, length, take, drop, Some, None, Option, IsSome, sym, refl, ap, ◌∙◌, subst, arith}
 use Rattle.std.proofs.lemmas.List.{take-append-drop, take-append-le, drop-append-le, length-append, length-drop, append_assoc, nil_from_length}
-use Rattle.std.proofs.Math.Seq.{take-nil, drop-nil, take-append-add, drop-append-add}
+use Rattle.std.proofs.Math.Seq.{take-append-add, drop-append-add}
 use Rattle.measure.specs.Measure.{Measure}
 use Rattle.chunks.specs.declared.side.Side.TheVariants.{Left}
-use Rattle.chunks.specs.Tree.{Tree, leaf, node, root, slots}
+use Rattle.chunks.specs.Tree.{Tree, leaf, node, root, slots, height}
 use Rattle.chunks.specs.Footprint.{one, count, uses, below}
 use Rattle.chunks.proofs.Footprint.{count_append, uses_node, below_few}
 use Rattle.chunks.proofs.Sides.{leaf_if_none, opened}
 use Rattle.slots.specs.declared.memory.Memory.{Memory}
 use Rattle.slots.specs.Claim.{Claim, nothing}
-use Rattle.slots.specs.View.{size_of}
+use Rattle.slots.specs.View.{size_of, height_at}
 use Rattle.slots.specs.Holds.{Holds, Owned, Ready}
 use Rattle.slots.specs.Join.{Joined}
 use Rattle.slots.specs.Split.{Held, Apart, Halved, Appended}
-use Rattle.slots.proofs.Frame.{frame_trans, frame_more, frame_none, size_same, roomy_same}
-use Rattle.slots.proofs.Holds.{holds_frame, owned_frame}
-use Rattle.slots.proofs.Rotating.{Seen}
+use Rattle.slots.proofs.Frame.{frame_trans, frame_more, roomy_same}
+use Rattle.slots.proofs.Holds.{holds_frame, owned_frame, ready_frame}
+use Rattle.slots.proofs.Joining.{height_held}
 
-take_behind : (xs ys : List ℕ) (i at : ℕ) → length xs < at → take at (xs ++ (i ∷ ys)) ≡ xs ++ (i ∷ take (at - length xs - 1) ys)
-take_behind xs ys i at h =
-    let e : at ≡ length xs + suc (at - length xs - 1) = omega arith in ap (λ k. take k (xs ++ (i ∷ ys))) e ∙ take-append-add xs (i ∷ ys) (suc (at - length xs - 1))
+take_behind : (xs ys : List ℕ) (i at n : ℕ) → n ≡ length xs → n < at → take at (xs ++ (i ∷ ys)) ≡ xs ++ (i ∷ take (at - n - 1) ys)
+take_behind xs ys i at n is h = let e : at ≡ length xs + suc (at - n - 1) = omega arith in ap (λ k. take k (xs ++ (i ∷ ys))) e ∙ take-append-add xs (i ∷ ys) (suc (at - n - 1))
 
-drop_behind : (xs ys : List ℕ) (i at : ℕ) → length xs < at → drop at (xs ++ (i ∷ ys)) ≡ drop (at - length xs - 1) ys
-drop_behind xs ys i at h =
-    let e : at ≡ length xs + suc (at - length xs - 1) = omega arith in ap (λ k. drop k (xs ++ (i ∷ ys))) e ∙ drop-append-add xs (i ∷ ys) (suc (at - length xs - 1))
-
--- The tree that a link leads to, with the slot on top taken out, and its two sides.
-pub held_open : {R : Type 0} {m : Memory R} {link : Option ℕ} {t : Tree} (i : ℕ) (left right : Option ℕ) (held : Held m link t) (v : Seen m Left left right i t) → Held m link (node v.o i v.n)
-held_open {m} {link} i left right held v = subst (λ (z : Tree). Held m link z) v.is held
+drop_behind : (xs ys : List ℕ) (i at n : ℕ) → n ≡ length xs → n < at → drop at (xs ++ (i ∷ ys)) ≡ drop (at - n - 1) ys
+drop_behind xs ys i at n is h = let e : at ≡ length xs + suc (at - n - 1) = omega arith in ap (λ k. drop k (xs ++ (i ∷ ys))) e ∙ drop-append-add xs (i ∷ ys) (suc (at - n - 1))
 
 -- The two sides of the slot that a link leads to.
 pub sides : {R : Type 0} {m : Memory R} {link : Option ℕ} {i : ℕ} {t : Tree} → link ≡ Some i → Held m link t → (l : Tree) × ((r : Tree) × ((t ≡ node l i r) × Held m link (node l i r)))
@@ -43,7 +37,34 @@ module _ {R : Type 0} {m : Memory R} {link : Option ℕ} {l : Tree} {i : ℕ} {r
   pub held_right : (right : Option ℕ) → right ≡ root r → Held m right r
   held_right right e = record { roomy = held.roomy; root_is = e; holds = held.holds.1.1; once = λ j. omega (arith, held.once j, uses_node l i r j) }
 
-module _ {R : Type 0} (μ : Measure R) where
+-- The height that memory says of a tree that it holds.
+pub held_height : {R : Type 0} {m : Memory R} {link : Option ℕ} {t : Tree} → Held m link t → height_at m link ≡ height t
+held_height {m} {link} {t} held = height_held m held.roomy t link held.root_is held.holds
+
+-- What the slot on top of a tree has on its two sides, once memory was asked.
+pub record Halves {R : Type 0} (m : Memory R) (link left right : Option ℕ) (i : ℕ) (t : Tree) : Type 0 where
+  pub l : Tree
+  pub r : Tree
+  pub is : t ≡ node l i r
+  pub top : Held m link (node l i r)
+  pub left_held : Held m left l
+  pub right_held : Held m right r
+  pub left_lower : height_at m left < height_at m link
+  pub right_lower : height_at m right < height_at m link
+
+pub halves : {R : Type 0} {m : Memory R} {link left right : Option ℕ} {i : ℕ} {t : Tree} → link ≡ Some i → Held m link t → ((a b : Tree) → Holds nothing m (node a i b) → left ≡ root a) →
+    ((b a : Tree) → Holds nothing m (node a i b) → right ≡ root b) → Halves m link left right i t
+halves {m} {link} {left} {right} is held left-is right-is =
+    let p = sides is held in
+    let top = p.1.1.1 in
+    let near = held_left top left (left-is p.0 p.1.0 top.holds) in
+    let far = held_right top right (right-is p.1.0 p.0 top.holds) in
+    let whole = held_height top in
+    let low = held_height near in
+    let high = held_height far in
+    record { l = p.0; r = p.1.0; is = p.1.1.0; top = top; left_held = near; right_held = far; left_lower = omega arith; right_lower = omega arith }
+
+module _ {R : Type 0} {μ : Measure R} where
   -- Both parts of a tree use what the tree uses.
   pub halved_uses : {m after : Memory R} {t : Tree} {at : ℕ} {a b : Tree} → Halved μ m t at after a b → (j : ℕ) → uses a j + uses b j ≡ uses t j
   halved_uses {t} {at} {a} {b} h j =
@@ -55,33 +76,20 @@ module _ {R : Type 0} (μ : Measure R) where
 
   module _ {m : Memory R} {link : Option ℕ} {l : Tree} {i : ℕ} {r : Tree} (held : Held m link (node l i r)) where
     -- The left side is cut.
-    module _ (at : ℕ) (within : at ≤ length (slots l)) {m₁ : Memory R} {a b : Tree} (cut : Halved μ m l at m₁ a b) where
+    module _ (at n : ℕ) (count : n ≡ length (slots l)) (within : at ≤ n) {m₁ : Memory R} {a b : Tree} (cut : Halved μ m l at m₁ a b) where
       right_stays : (w : Claim R) → Holds w m r → Holds w m₁ r
       right_stays w h = holds_frame w m m₁ _ cut.frame r (λ j. omega (arith, held.once j, uses_node l i r j, below_few m.usable j)) h
 
       pub left_ready : (rest right : Option ℕ) → rest ≡ root b → right ≡ root r → Ready m₁ rest b i right r
       left_ready rest right e f =
           let here = held.holds.0 in
-          let size = size_same m m₁ _ cut.frame i in
-          let u = cut.frame.usable in
-          let known = here.known in
-          record {
-            roomy = roomy_same m m₁ _ cut.frame held.roomy;
-            known = omega arith;
-            near_root = e;
-            far_root = f;
-            near_holds = (cut.keeps nothing tt held.holds.1.0).1;
-            far_holds = right_stays nothing held.holds.1.1;
-            once = λ j. subst (λ z. uses b j + (one i j + uses r j) ≤ below z j) (sym u) (omega (arith, held.once j, uses_node l i r j, halved_uses cut j));
-            some_byte = subst (λ z. 1 ≤ z) (sym size) here.some_byte;
-            few_bytes = subst (λ z. z ≤ 64) (sym size) here.few_bytes;
-          }
+          ready_frame m m₁ _ cut.frame held.roomy i (here.known, (here.some_byte, here.few_bytes)) e f (cut.keeps nothing tt held.holds.1.0).1 (right_stays nothing held.holds.1.1) (λ j. omega (arith, held.once j, uses_node l i r j, halved_uses cut j))
 
       pub left_halved : {m₂ : Memory R} {t : Tree} → Joined μ Left m₁ b i r m₂ t → Halved μ m (node l i r) at m₂ a t
       left_halved {m₂} {t} joined = record {
         frame = frame_more m m₂ _ _ (λ j e. omega (arith, uses_node l i r j, halved_uses cut j)) (frame_trans m m₁ m₂ _ _ cut.frame joined.frame);
-        front = cut.front ∙ sym (take-append-le at (slots l) (i ∷ slots r) within);
-        back = joined.order ∙ ap (λ z. z ++ (i ∷ slots r)) cut.back ∙ sym (drop-append-le at (slots l) (i ∷ slots r) within);
+        front = cut.front ∙ sym (take-append-le at (slots l) (i ∷ slots r) (omega arith));
+        back = joined.order ∙ ap (λ z. z ++ (i ∷ slots r)) cut.back ∙ sym (drop-append-le at (slots l) (i ∷ slots r) (omega arith));
         keeps = λ w fair h.
             let both = cut.keeps w fair h.1.0 in (
               holds_frame w m₁ m₂ _ joined.frame a (λ j. omega (arith, held.once j, uses_node l i r j, halved_uses cut j, below_few m.usable j)) both.0,
@@ -90,48 +98,26 @@ module _ {R : Type 0} (μ : Measure R) where
       }
 
     -- The right side is cut.
-    module _ (at : ℕ) (beyond : length (slots l) < at) {m₁ : Memory R} {a b : Tree} (cut : Halved μ m r (at - length (slots l) - 1) m₁ a b) where
+    module _ (at n : ℕ) (count : n ≡ length (slots l)) (beyond : n < at) {m₁ : Memory R} {a b : Tree} (cut : Halved μ m r (at - n - 1) m₁ a b) where
       left_stays : (w : Claim R) → Holds w m l → Holds w m₁ l
       left_stays w h = holds_frame w m m₁ _ cut.frame l (λ j. omega (arith, held.once j, uses_node l i r j, below_few m.usable j)) h
 
       pub right_ready : (left first : Option ℕ) → left ≡ root l → first ≡ root a → Ready m₁ left l i first a
       right_ready left first e f =
           let here = held.holds.0 in
-          let size = size_same m m₁ _ cut.frame i in
-          let u = cut.frame.usable in
-          let known = here.known in
-          record {
-            roomy = roomy_same m m₁ _ cut.frame held.roomy;
-            known = omega arith;
-            near_root = e;
-            far_root = f;
-            near_holds = left_stays nothing held.holds.1.0;
-            far_holds = (cut.keeps nothing tt held.holds.1.1).0;
-            once = λ j. subst (λ z. uses l j + (one i j + uses a j) ≤ below z j) (sym u) (omega (arith, held.once j, uses_node l i r j, halved_uses cut j));
-            some_byte = subst (λ z. 1 ≤ z) (sym size) here.some_byte;
-            few_bytes = subst (λ z. z ≤ 64) (sym size) here.few_bytes;
-          }
+          ready_frame m m₁ _ cut.frame held.roomy i (here.known, (here.some_byte, here.few_bytes)) e f (left_stays nothing held.holds.1.0) (cut.keeps nothing tt held.holds.1.1).0 (λ j. omega (arith, held.once j, uses_node l i r j, halved_uses cut j))
 
       pub right_halved : {m₂ : Memory R} {t : Tree} → Joined μ Left m₁ l i a m₂ t → Halved μ m (node l i r) at m₂ t b
       right_halved {m₂} {t} joined = record {
         frame = frame_more m m₂ _ _ (λ j e. omega (arith, uses_node l i r j, halved_uses cut j)) (frame_trans m m₁ m₂ _ _ cut.frame joined.frame);
-        front = joined.order ∙ ap (λ z. slots l ++ (i ∷ z)) cut.front ∙ sym (take_behind (slots l) (slots r) i at beyond);
-        back = cut.back ∙ sym (drop_behind (slots l) (slots r) i at beyond);
+        front = joined.order ∙ ap (λ z. slots l ++ (i ∷ z)) cut.front ∙ sym (take_behind (slots l) (slots r) i at n count beyond);
+        back = cut.back ∙ sym (drop_behind (slots l) (slots r) i at n count beyond);
         keeps = λ w fair h.
             let both = cut.keeps w fair h.1.1 in (
               joined.keeps w fair (left_stays w h.1.0) both.0 (owned_frame w m m₁ _ cut.frame i (record { own = λ d. (h.0.placed d).own })),
               holds_frame w m₁ m₂ _ joined.frame b (λ j. omega (arith, held.once j, uses_node l i r j, halved_uses cut j, below_few m.usable j)) both.1,
             );
       }
-
-  -- Nothing is cut into nothing.
-  pub none_halved : {m : Memory R} {link : Option ℕ} {t : Tree} (held : Held m link t) (at : ℕ) → t ≡ leaf → Halved μ m t at m leaf leaf
-  none_halved {m} {link} {t} held at is = record {
-    frame = frame_none m (uses t);
-    front = sym (ap (λ (z : Tree). take at (slots z)) is ∙ take-nil {A = ℕ} at);
-    back = sym (ap (λ (z : Tree). drop at (slots z)) is ∙ drop-nil {A = ℕ} at);
-    keeps = λ w fair h. (tt, tt);
-  }
 
 -- The last slot of a tree, cut off from the others.
 last_alone : (z : Tree) (k : ℕ) → Some k ≡ root z → length (slots z) ≡ 1 → slots z ≡ k ∷ []
@@ -151,18 +137,11 @@ here_of w m (node l i r) k e (here, _) =
       (subst (λ n. n < m.usable) same here.known, (subst (λ n. 1 ≤ size_of m n) same here.some_byte, subst (λ n. size_of m n ≤ 64) same here.few_bytes)),
     )
 
-module _ {R : Type 0} (μ : Measure R) {m : Memory R} {first : Option ℕ} {a : Tree} {rest : Option ℕ} {b : Tree} (apart : Apart m first a rest b) where
+module _ {R : Type 0} {m : Memory R} {first : Option ℕ} {a : Tree} {rest : Option ℕ} {b : Tree} (apart : Apart m first a rest b) where
   pub held_first : Held m first a
   held_first = record { roomy = apart.roomy; root_is = apart.first_root; holds = apart.first_holds; once = λ j. omega (arith, apart.once j) }
 
-  pub append_none : length (slots a) ≡ 0 → Appended μ m a b m b
-  append_none none = record {
-    frame = frame_none m _;
-    order = ap (λ z. z ++ slots b) (sym (nil_from_length (slots a) none));
-    keeps = λ w fair ha hb. hb;
-  }
-
-  module _ (at : ℕ) (is : suc at ≡ length (slots a)) {m₁ : Memory R} {f z : Tree} (cut : Halved μ m a at m₁ f z) where
+  module _ {μ : Measure R} (at : ℕ) (is : suc at ≡ length (slots a)) {m₁ : Memory R} {f z : Tree} (cut : Halved μ m a at m₁ f z) where
     last_one : length (slots z) ≡ 1
     last_one = ap length cut.back ∙ length-drop at (slots a) ∙ omega arith
 

@@ -42,12 +42,15 @@ module _ (xs ys : List ℕ) (i k : ℕ) (long : k ≡ length ys) (few : k ≤ 64
 module _ {R : Type 0} (m n : Memory R) (i : ℕ) (slot : Slot R) (bytes ys : List ℕ) (k : ℕ) (roomy : Roomy m) (known : i < m.usable) (few : length bytes ≤ 64)
     (slots : n.slots.now ≡ set m.slots.now i slot) (copied : ys ≡ bytes) (same : k ≡ length bytes) (store : n.store.now ≡ put_mid (64 * i) k m.store.now ys)
     (readings : n.readings.now ≡ m.readings.now) (usable : n.usable ≡ m.usable) (free : n.free ≡ m.free) (size : slot.size ≡ length bytes) where
+  long : k ≡ length ys
+  long = same ∙ sym (ap length copied)
+
+  within : 64 * i + 64 ≤ length m.store.now
+  within = let room = roomy.store_each in omega arith
+
   written_elsewhere : Elsewhere m n (one i)
   unfolding put
   written_elsewhere =
-      let room = roomy.store_each in
-      let long : k ≡ length ys = same ∙ sym (ap length copied) in
-      let within : 64 * i + 64 ≤ length m.store.now = omega arith in
       elsewhere_written m n i slot slots readings usable
       (ap length store ∙ put_length m.store.now ys i k long (omega arith) within)
       (λ j h apart small. ap (λ z. take h (drop (64 * j) z)) store ∙ put_there m.store.now ys i k long (omega arith) within j h apart small)
@@ -64,9 +67,6 @@ module _ {R : Type 0} (m n : Memory R) (i : ℕ) (slot : Slot R) (bytes ys : Lis
   written_chunk : chunk_of n i ≡ bytes
   unfolding put
   written_chunk =
-      let room = roomy.store_each in
-      let long : k ≡ length ys = same ∙ sym (ap length copied) in
-      let within : 64 * i + 64 ≤ length m.store.now = omega arith in
       ap (λ h. take h (drop (64 * i) n.store.now)) (written_size ∙ sym same)
       ∙ ap (λ z. take k (drop (64 * i) z)) store
       ∙ put_here m.store.now ys i k long (omega arith) within

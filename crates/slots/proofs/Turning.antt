@@ -14,8 +14,8 @@ use Rattle.slots.specs.View.{size_of}
 use Rattle.slots.specs.Holds.{Holds, Owned, Ready}
 use Rattle.slots.specs.Frame.{Frame}
 use Rattle.slots.specs.Join.{Linked, Joined}
-use Rattle.slots.proofs.Frame.{frame_trans, frame_more, size_same, roomy_same}
-use Rattle.slots.proofs.Holds.{holds_frame, owned_frame}
+use Rattle.slots.proofs.Frame.{frame_trans, frame_more}
+use Rattle.slots.proofs.Holds.{holds_frame, owned_frame, ready_frame}
 
 -- A tree taken apart at its top.
 pub record Parts {R : Type 0} (w : Claim R) (m : Memory R) (a : Tree) (i : ℕ) (b : Tree) : Type 0 where
@@ -24,9 +24,7 @@ pub record Parts {R : Type 0} (w : Claim R) (m : Memory R) (a : Tree) (i : ℕ) 
   pub owned : Owned w m i
   pub near_low : height a ≤ suc (height b)
   pub far_low : height b ≤ suc (height a)
-  pub known : i < m.usable
-  pub some_byte : 1 ≤ size_of m i
-  pub few_bytes : size_of m i ≤ 64
+  pub own : (i < m.usable) × ((1 ≤ size_of m i) × (size_of m i ≤ 64))
 
 module _ {R : Type 0} where
   pub parts : (w : Claim R) (m : Memory R) (s : Side) (a : Tree) (i : ℕ) (b : Tree) → Holds w m (around s a i b) → Parts w m a i b
@@ -36,9 +34,7 @@ module _ {R : Type 0} where
     owned = record { own = λ d. (here.placed d).own };
     near_low = here.level.left_low;
     far_low = here.level.right_low;
-    known = here.known;
-    some_byte = here.some_byte;
-    few_bytes = here.few_bytes;
+    own = (here.known, (here.some_byte, here.few_bytes));
   }
   parts w m Right a i b (here, (hb, ha)) = record {
     near = ha;
@@ -46,13 +42,11 @@ module _ {R : Type 0} where
     owned = record { own = λ d. (here.placed d).own };
     near_low = here.level.right_low;
     far_low = here.level.left_low;
-    known = here.known;
-    some_byte = here.some_byte;
-    few_bytes = here.few_bytes;
+    own = (here.known, (here.some_byte, here.few_bytes));
   }
 
-  pub ready_turned : (m : Memory R) (near : Option ℕ) (a : Tree) (i : ℕ) (far : Option ℕ) (b : Tree) → Ready m near a i far b → Ready m far b i near a
-  ready_turned m near a i far b ready = record {
+  pub ready_turned : {m : Memory R} {near : Option ℕ} {a : Tree} {i : ℕ} {far : Option ℕ} {b : Tree} → Ready m near a i far b → Ready m far b i near a
+  ready_turned ready = record {
     roomy = ready.roomy;
     known = ready.known;
     near_root = ready.far_root;
@@ -75,8 +69,8 @@ module _ {R : Type 0} where
   }
 
   -- One slot linked between two level trees joins them.
-  pub joined_linked : (μ : Measure R) (s : Side) (m : Memory R) (a : Tree) (i : ℕ) (b : Tree) (after : Memory R) → Linked μ s m a i b after → Joined μ s m a i b after (around s a i b)
-  joined_linked μ s m a i b after l =
+  pub joined_linked : {μ : Measure R} {s : Side} {m : Memory R} {a : Tree} {i : ℕ} {b : Tree} {after : Memory R} → Linked μ s m a i b after → Joined μ s m a i b after (around s a i b)
+  joined_linked {s = s} {m = m} {a = a} {i = i} {b = b} {after = after} l =
       let top = height_around s a i b in
       record {
         frame = frame_more m after _ _ (λ k e. omega arith) l.frame;
@@ -87,11 +81,11 @@ module _ {R : Type 0} where
         keeps = l.keeps;
       }
 
-  pub linked_turned : (μ : Measure R) (m : Memory R) (a : Tree) (i : ℕ) (b : Tree) (after : Memory R) → Linked μ Left m b i a after → Linked μ Right m a i b after
-  linked_turned μ m a i b after l = record { frame = l.frame; keeps = λ w fair ha hb owned. l.keeps w fair hb ha owned }
+  pub linked_turned : {μ : Measure R} {m : Memory R} {a : Tree} {i : ℕ} {b : Tree} {after : Memory R} → Linked μ Left m b i a after → Linked μ Right m a i b after
+  linked_turned l = record { frame = l.frame; keeps = λ w fair ha hb owned. l.keeps w fair hb ha owned }
 
   -- The slot k goes out of the way: its inner tree n is joined with i and b first, then k is put back on top.
-  module _ (μ : Measure R) (s : Side) (m : Memory R) (near : Option ℕ) (o : Tree) (k : ℕ) (n : Tree) (i : ℕ) (far : Option ℕ) (b : Tree)
+  module _ (s : Side) (m : Memory R) (near : Option ℕ) (o : Tree) (k : ℕ) (n : Tree) (i : ℕ) (far : Option ℕ) (b : Tree)
       (ready : Ready m near (around s o k n) i far b) where
     once : (j : ℕ) → uses o j + (one k j + uses n j) + (one i j + uses b j) ≤ below m.usable j
     once j = omega (arith, ready.once j, uses_around s o k n j)
@@ -109,7 +103,7 @@ module _ {R : Type 0} where
       few_bytes = ready.few_bytes;
     }
 
-    module _ (m₁ : Memory R) (t₁ : Tree) (first : Joined μ s m n i b m₁ t₁) where
+    module _ {μ : Measure R} (m₁ : Memory R) (t₁ : Tree) (first : Joined μ s m n i b m₁ t₁) where
       moved : (j : ℕ) → uses t₁ j ≡ uses n j + (one i j + uses b j)
       moved j = ap (λ l. count l j) first.order ∙ count_run s (slots n) i (slots b) j
 
@@ -119,20 +113,7 @@ module _ {R : Type 0} where
       pub ready_outer : (outer : Option ℕ) → outer ≡ root o → (r : ℕ) → Some r ≡ root t₁ → Ready m₁ outer o k (Some r) t₁
       ready_outer outer e r top =
           let p = parts nothing m s o k n ready.near_holds in
-          let size = size_same m m₁ _ first.frame k in
-          let u = first.frame.usable in
-          let known = p.known in
-          record {
-            roomy = roomy_same m m₁ _ first.frame ready.roomy;
-            known = omega arith;
-            near_root = e;
-            far_root = top;
-            near_holds = outer_stays nothing p.near;
-            far_holds = first.keeps nothing tt p.far ready.far_holds (record { own = λ d. tt });
-            once = λ j. subst (λ z. uses o j + (one k j + uses t₁ j) ≤ below z j) (sym u) (omega (arith, once j, moved j));
-            some_byte = subst (λ z. 1 ≤ z) (sym size) p.some_byte;
-            few_bytes = subst (λ z. z ≤ 64) (sym size) p.few_bytes;
-          }
+          ready_frame m m₁ _ first.frame ready.roomy k p.own e top (outer_stays nothing p.near) (first.keeps nothing tt p.far ready.far_holds (record { own = λ d. tt })) (λ j. omega (arith, once j, moved j))
 
       pub joined_over : (m₂ : Memory R) (t₂ : Tree) → Joined μ s m₁ o k t₁ m₂ t₂ → height (around s o k n) ≤ height t₂ → height b ≤ height t₂ →
           ((h : ℕ) → height (around s o k n) ≤ h → height b ≤ h → height t₂ ≤ suc h) → Joined μ s m (around s o k n) i b m₂ t₂
@@ -148,7 +129,7 @@ module _ {R : Type 0} where
       }
 
   -- The inner tree's own top j goes to the top of all, with k on one side of it and i on the other.
-  module _ (μ : Measure R) (s : Side) (m : Memory R) (near : Option ℕ) (o : Tree) (k : ℕ) (x : Tree) (j : ℕ) (y : Tree) (i : ℕ) (far : Option ℕ) (b : Tree)
+  module _ (s : Side) (m : Memory R) (near : Option ℕ) (o : Tree) (k : ℕ) (x : Tree) (j : ℕ) (y : Tree) (i : ℕ) (far : Option ℕ) (b : Tree)
       (ready : Ready m near (around s o k (around s x j y)) i far b) where
     once_twice : (q : ℕ) → uses o q + (one k q + (uses x q + (one j q + uses y q))) + (one i q + uses b q) ≤ below m.usable q
     once_twice q = omega (arith, ready.once q, uses_around s o k (around s x j y) q, uses_around s x j y q)
@@ -164,17 +145,17 @@ module _ {R : Type 0} where
         let p = outer_parts nothing ready.near_holds in
         record {
           roomy = ready.roomy;
-          known = p.known;
+          known = p.own.0;
           near_root = e;
           far_root = f;
           near_holds = p.near;
           far_holds = (inner_parts nothing ready.near_holds).near;
           once = λ q. omega (arith, once_twice q);
-          some_byte = p.some_byte;
-          few_bytes = p.few_bytes;
+          some_byte = p.own.1.0;
+          few_bytes = p.own.1.1;
         }
 
-    module _ (m₁ : Memory R) (first : Linked μ s m o k x m₁) where
+    module _ {μ : Measure R} (m₁ : Memory R) (first : Linked μ s m o k x m₁) where
       stays₁ : (w : Claim R) (t : Tree) → ((q : ℕ) → uses t q + one k q ≤ 1) → Holds w m t → Holds w m₁ t
       stays₁ w t apart h = holds_frame w m m₁ _ first.frame t apart h
 
@@ -186,20 +167,8 @@ module _ {R : Type 0} where
 
       pub ready_second : (inner : Option ℕ) → inner ≡ root y → Ready m₁ inner y i far b
       ready_second inner e =
-          let size = size_same m m₁ _ first.frame i in
-          let u = first.frame.usable in
-          let known = ready.known in
-          record {
-            roomy = roomy_same m m₁ _ first.frame ready.roomy;
-            known = omega arith;
-            near_root = e;
-            far_root = ready.far_root;
-            near_holds = stays₁ nothing y y_apart (inner_parts nothing ready.near_holds).far;
-            far_holds = stays₁ nothing b b_apart ready.far_holds;
-            once = λ q. subst (λ z. uses y q + (one i q + uses b q) ≤ below z q) (sym u) (omega (arith, once_twice q));
-            some_byte = subst (λ z. 1 ≤ z) (sym size) ready.some_byte;
-            few_bytes = subst (λ z. z ≤ 64) (sym size) ready.few_bytes;
-          }
+          ready_frame m m₁ _ first.frame ready.roomy i (ready.known, (ready.some_byte, ready.few_bytes)) e ready.far_root (stays₁ nothing y y_apart (inner_parts nothing ready.near_holds).far) (stays₁ nothing b b_apart ready.far_holds)
+          (λ q. omega (arith, once_twice q))
 
       module _ (m₂ : Memory R) (second : Linked μ s m₁ y i b m₂) where
         both : Frame m m₂ (λ q. one k q + one i q)
@@ -219,20 +188,8 @@ module _ {R : Type 0} where
         pub ready_third : Ready m₂ (Some k) (around s o k x) j (Some i) (around s y i b)
         ready_third =
             let p = inner_parts nothing ready.near_holds in
-            let size = size_same m m₂ _ both j in
-            let u = both.usable in
-            let known = p.known in
-            record {
-              roomy = roomy_same m m₂ _ both ready.roomy;
-              known = omega arith;
-              near_root = sym (root_around s o k x);
-              far_root = sym (root_around s y i b);
-              near_holds = near_side nothing tt ready.near_holds;
-              far_holds = far_side nothing tt ready.near_holds ready.far_holds (record { own = λ d. tt });
-              once = λ q. subst (λ z. uses (around s o k x) q + (one j q + uses (around s y i b) q) ≤ below z q) (sym u) (omega (arith, uses_around s o k x q, uses_around s y i b q, once_twice q));
-              some_byte = subst (λ z. 1 ≤ z) (sym size) p.some_byte;
-              few_bytes = subst (λ z. z ≤ 64) (sym size) p.few_bytes;
-            }
+            ready_frame m m₂ _ both ready.roomy j p.own (sym (root_around s o k x)) (sym (root_around s y i b)) (near_side nothing tt ready.near_holds)
+            (far_side nothing tt ready.near_holds ready.far_holds (record { own = λ d. tt })) (λ q. omega (arith, uses_around s o k x q, uses_around s y i b q, once_twice q))
 
         module _ (m₃ : Memory R) (third : Linked μ s m₂ (around s o k x) j (around s y i b) m₃) where
           abbrev pub t₃ : Tree

@@ -9,17 +9,6 @@ use Rattle.slots.proofs.Rotating.{steep_higher, steep_lower}
 use Rattle.slots.proofs.Joining.{settled_linked}
 use Rattle.balance.proofs.join.settle.Goals as goal
 
-pub rotate-requires : goal.rotate-requires
-rotate-requires g c =
-    let a = c.requires.0 in
-    let b = c.requires.1.0 in
-    let grown = c.requires.1.1 in
-    let ready = grown.ready in
-    let far = grown.far_low in
-    let higher = steep_higher b a 1 _ (c.top_if_higher.ensures b a ready.far_root ready.near_root ready.far_holds ready.near_holds) (sym c.is_some.ensures ∙ c.if-is_some.true) in
-    let two : height b ≡ suc (suc (height a)) = omega arith in
-    (b, (a, (ready_turned _ _ _ _ _ _ ready, two)))
-
 pub returns-then-is_some : goal.returns-then-is_some
 returns-then-is_some g c a b grown =
     let μ = g.M.Meter.scale c.args.meter.now in
@@ -27,16 +16,15 @@ returns-then-is_some g c a b grown =
     let far = grown.far_low in
     let higher = steep_higher b a 1 _ (c.top_if_higher.ensures b a ready.far_root ready.near_root ready.far_holds ready.near_holds) (sym c.is_some.ensures ∙ c.if-is_some.true) in
     let two : height b ≡ suc (suc (height a)) = omega arith in
-    let made = c.rotate.ensures b a (ready_turned _ _ _ _ _ _ ready) two in
+    let made = c.rotate.ensures b a (ready_turned ready) two in
     let t = made.0 in
     let turned = subst (λ (s : Side). Joined μ s c.args.memory.now b c.args.i a c.rotate.new.memory t) c.other.ensures made.1.1 in
     (t, (made.1.0, record { joined = joined_turned μ c.args.side _ a _ b _ t turned; exact = λ low. let no : ⊥ = omega arith in absurd no }))
 
 pub returns-else-is_some : goal.returns-else-is_some
 returns-else-is_some g c a b grown =
-    let μ = g.M.Meter.scale c.args.meter.now in
     let ready = grown.ready in
     let near = grown.near_low in
     let low = steep_lower b a 1 _ (c.top_if_higher.ensures b a ready.far_root ready.near_root ready.far_holds ready.near_holds) (sym c.is_some.ensures ∙ c.if-is_some.false) in
     let level : Level a b = record { left_low = near; right_low = omega arith } in
-    (around c.args.side a c.args.i b, (sym (root_around c.args.side a _ b), settled_linked μ c.args.side _ a _ b _ (c.link_around.ensures a b ready level)))
+    (around c.args.side a c.args.i b, (sym (root_around c.args.side a _ b), settled_linked (c.link_around.ensures a b ready level)))

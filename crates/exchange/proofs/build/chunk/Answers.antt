@@ -1,38 +1,8 @@
-use Rattle.std.proofs.Common.{◌≡◌, ◌-◌, ◌≤◌, length, take, drop, ap, ◌∙◌, add-one, arith, rules}
+use Rattle.std.proofs.Common.{◌≡◌, ◌+◌, ◌-◌, ◌≤◌, length, take, drop, ap, ◌∙◌, add-one, arith, rules}
 use Rattle.chunks.specs.Cut.{begin, share}
-use Rattle.chunks.proofs.Cut.{begin_more, chunk_within}
+use Rattle.chunks.proofs.Cut.{begin_more, begin_grows, begin_within}
 use Rattle.exchange.proofs.build.chunk.Goals as goal
-
-pub slice_bounds-result-count : goal.slice_bounds-result-count
-slice_bounds-result-count c =
-    let j = length c.args.bytes.now in
-    let q = c.args.count in
-    let k = c.args.k in
-    omega (arith, begin_more j q k, ap (begin j q) (add-one k))
-
-pub slice_bounds-result-start : goal.slice_bounds-result-start
-slice_bounds-result-start c =
-    let j = length c.args.bytes.now in
-    let q = c.args.count in
-    let k = c.args.k in
-    let some = chunk_within c.args.bytes.now q (omega arith) k c.requires in
-    let more = begin_more j q k in
-    let next = ap (begin j q) (add-one k) in
-    let low : c.begin-from.result ≤ c.begin-to.result = omega arith in
-    let high : c.begin-to.result ≤ length c.args.bytes.now = omega arith in
-    search rules
-
-pub slice_bounds-result-end : goal.slice_bounds-result-end
-slice_bounds-result-end c =
-    let j = length c.args.bytes.now in
-    let q = c.args.count in
-    let k = c.args.k in
-    let some = chunk_within c.args.bytes.now q (omega arith) k c.requires in
-    let more = begin_more j q k in
-    let next = ap (begin j q) (add-one k) in
-    let low : c.begin-from.result ≤ c.begin-to.result = omega arith in
-    let high : c.begin-to.result ≤ length c.args.bytes.now = omega arith in
-    search rules
+use Rattle.exchange.proofs.build.chunk.Goals.{After-begin-to}
 
 pub returns : goal.returns
 returns c =

@@ -10,8 +10,8 @@ use Rattle.slots.proofs.Rangewise.{slots_few}
 use Rattle.slots.proofs.Overwritten.{overwritten_whole, overwritten_chunks, overwritten_kept, overwritten_size}
 use Rattle.in_place.proofs.rewrite.overwrite.Goals as goal
 
-pub rewrite-requires : goal.rewrite-requires
-rewrite-requires g c =
+pub rewrite-requires-clause-held : goal.rewrite-requires-clause-held
+rewrite-requires-clause-held g c =
     let m = c.args.memory.now in
     let held = held_whole (whole_sound _ _ c.requires.sound) in
     let within = c.requires.within in
@@ -19,7 +19,7 @@ rewrite-requires g c =
     let size = ap (length {A = ℕ}) cut.bytes in
     let few = slots_few held in
     let long = length-map (slots (tree_of m c.args.link)) (chunk_of m) in
-    record { held = (_, (held, omega arith)); few_chunks = omega arith }
+    (_, (held, omega arith))
 
 pub returns : goal.returns
 returns g c =
@@ -34,8 +34,8 @@ returns g c =
     let made_of = subst (λ bs. Rewritten μ m t 0 bs c.of-cut.result.count from (from + c.of-cut.result.count) c.rewrite.new.memory) cut.bytes made in
     let done = subst (λ q. Rewritten μ m t 0 bytes q from (from + q) c.rewrite.new.memory) cut.count made_of in
     record {
-      sound = sound_whole (overwritten_whole μ t whole bytes from c.requires.within done);
-      chunks = overwritten_chunks μ t whole bytes from c.requires.within done;
-      keeps = overwritten_kept μ t whole bytes from c.requires.within done;
-      size = overwritten_size μ t whole bytes from c.requires.within done;
+      sound = sound_whole (overwritten_whole t whole bytes from c.requires.within done);
+      chunks = overwritten_chunks t whole bytes from c.requires.within done;
+      keeps = overwritten_kept t whole bytes from c.requires.within done;
+      size = overwritten_size t whole bytes from c.requires.within done;
     }
