@@ -1,12 +1,16 @@
 -- Searches for a partner over a whole text: where it leaves too few brackets to match the search's own, it is run through.
 use Rattle.std.proofs.Common.{◌≡◌, ℕ, suc, ◌+◌, ◌-◌, ◌<◌, ◌≤◌, false, cond, ◌&&◌, ltb, leb, List, [], ◌∷◌, length, Some, None, Option, IfSome, sym, refl, ap, ◌∙◌, ⊎_elim, arith}
 use Rattle.std.proofs.lemmas.Bool.{cases_Bool, cases_lt, and_parts, ltb-true, leb-true, cond-true, cond-false, lt-ltb, le-ltb, le-leb, lt-leb}
-use Rattle.automaton.specs.Automaton.{Automaton}
+use Rattle.automaton.specs.Automaton.{Automaton, Lawful}
 use Rattle.automaton.specs.Bracket.{role}
 use Rattle.automaton.specs.Walk.{walk}
 use Rattle.automaton.specs.declared.role.Role.{Role}
 use Rattle.automaton.specs.declared.role.Role.TheVariants.{Plain, Opening, Closing}
 use Rattle.measure.specs.Bounded.{longest, capped}
+use Rattle.measure.specs.Measure.{reading}
+use Rattle.measure.specs.Walk.{entry, entry_at, walk_measure}
+use Rattle.measure.specs.declared.walk_reading.Entry.{Entry}
+use Rattle.measure.specs.declared.walk_reading.Passage.{Passage}
 use Rattle.measure.specs.Unmatched.{opens, closes, unmatched_closings, unmatched_openings}
 use Rattle.measure.proofs.Unmatched.{one_role, leads, unmatched_few}
 use Rattle.search.specs.declared.stop.Stop.{Stop}
@@ -15,6 +19,7 @@ use Rattle.search.specs.Backwards.{forwards, leftwards, back_stop}
 use Rattle.locate.specs.Depth.{deepest, deeper, shallower, depth_ahead, depth_behind, depth_over}
 use Rattle.locate.specs.PartnerAhead.{nested, nested_in, ahead_on}
 use Rattle.locate.specs.PartnerBehind.{traced, trace_on, behind_on}
+use Rattle.locate.proofs.Passages.{passage_told}
 
 pub goes_deeper : (d : ℕ) → d < deepest → deeper d ≡ Some (d + 1)
 goes_deeper d h = let same : capped (d + 1) ≡ d + 1 = omega arith in ap Some same
@@ -149,3 +154,35 @@ module _ (a : Automaton) where
       let fewer = fewer_openings b text s in
       let rest = ap (λ f. back_stop (trace_on a) (behind_on a) f text d) (cond-true (ltb read longest) (Some (traced (read + 1) t)) None (lt-ltb read longest (omega arith))) ∙ passes_behind text (read + 1) t d (omega arith) (omega arith) (omega arith) in
       ap (λ (z : Stop ℕ). cond z.stopped z (leftwards z (depth_behind (role a s b) z.at))) rest ∙ over_behind (role a s b) b text s d refl h l
+
+-- What the searches pass by a reading.
+module _ (a : Automaton) (lawful : Lawful a) (text : List ℕ) (p : Passage) (is : reading (walk_measure a) text ≡ Some p) (s : ℕ) (x : Entry) (at : x ≡ entry_at p.entries s) where
+  long : p.length ≡ length text
+  long = (passage_told a lawful text p is).long
+
+  there : x ≡ entry a s text
+  there = at ∙ (passage_told a lawful text p is).entries s
+
+  ends : x.end ≡ walk a s text
+  ends = ap (λ (y : Entry). y.end) there
+
+  leaves_closings : x.closings ≡ unmatched_closings a s text
+  leaves_closings = ap (λ (y : Entry). y.closings) there
+
+  leaves_openings : x.openings ≡ unmatched_openings a s text
+  leaves_openings = ap (λ (y : Entry). y.openings) there
+
+  pub ahead_over_text : (d depth : ℕ) → depth_over d p.length x.closings x.openings ≡ Some depth → through (ahead_on a) (nested s d) text ≡ Some (nested x.end depth)
+  ahead_over_text d depth e =
+      let told = over_tells d p.length x.closings x.openings depth e in
+      passes_ahead a text s d (omega (arith, long, told.0)) (omega (arith, leaves_closings, told.1))
+      ∙ some_nested (sym ends) (omega (arith, leaves_closings, leaves_openings, told.2))
+
+  pub traced_over_text : (read : ℕ) → p.length ≤ longest - read → forwards (trace_on a) (Some (traced read s)) text ≡ Some (traced (read + p.length) x.end)
+  traced_over_text read short = traces a text read s (omega (arith, long)) ∙ some_traced (ap (λ n. read + n) (sym long)) (sym ends)
+
+  pub behind_over_text : (read d depth : ℕ) → p.length ≤ longest - read → depth_over d p.length x.openings x.closings ≡ Some depth → back_stop (trace_on a) (behind_on a) (Some (traced read s)) text d ≡ ran (length text) depth
+  behind_over_text read d depth short e =
+      let told = over_tells d p.length x.openings x.closings depth e in
+      passes_behind a text read s d (omega (arith, long)) (omega (arith, long, told.0)) (omega (arith, leaves_openings, told.1))
+      ∙ ap (ran (length text)) (omega (arith, leaves_openings, leaves_closings, told.2))

@@ -10,7 +10,7 @@ use Rattle.measure.specs.declared.walk_reading.Entry.{Entry}
 use Rattle.measure.specs.declared.walk_reading.Passage.{Passage}
 use Rattle.search.specs.Forwards.{then, through}
 use Rattle.locate.specs.Meeting.{two_states, meet_on}
-use Rattle.locate.proofs.Passages.{passage_told, entry_told}
+use Rattle.locate.proofs.Passages.{passage_told}
 
 pub stays_apart : (a : Automaton) (s t : ℕ) (text : List ℕ) → (walk a s text ≡ walk a t text → ⊥) → through (meet_on a) (two_states s t) text ≡ Some (two_states (walk a s text) (walk a t text))
 stays_apart a s t [] ne = refl
@@ -31,4 +31,4 @@ apart_told a s t text old new e f = by (eqb old new) refl
 
 -- Where a walk ends, as one entry of a reading tells.
 pub end_told : (a : Automaton) → Lawful a → (text : List ℕ) (p : Passage) → reading (walk_measure a) text ≡ Some p → (s : ℕ) (x : Entry) → x ≡ entry_at p.entries s → x.end ≡ walk a s text
-end_told a lawful text p is s x e = ap (λ (x : Entry). x.end) (e ∙ entry_told a lawful text p (passage_told a lawful text p is).1 s)
+end_told a lawful text p is s x e = ap (λ (x : Entry). x.end) (e ∙ (passage_told a lawful text p is).entries s)
