@@ -88,7 +88,7 @@ module _ (column : ℕ) where
 pub told : (text : List ℕ) (x : Extent) → reading place_measure text ≡ Some x → (x.lines ≡ line_ends text) × (x.units ≡ units text) × (x.length ≡ length text)
 told text x e =
     let is = place_is text in
-    ⊎_elim (λ h. let over = bounded_over extent text h in let z : ◌≡◌ {A = ℕ} 0 1 = cc in absurd (omega arith))
+    ⊎_elim (λ h. let over = bounded_over extent text h in absurd (cc))
     (λ h. let within = bounded_within extent text h in
     let same : x ≡ extent text = cc in
     (ap (λ (y : Extent). y.lines) same, ap (λ (y : Extent). y.units) same, ap (λ (y : Extent). y.length) same))

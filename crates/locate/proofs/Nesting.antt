@@ -47,7 +47,7 @@ over_tells d n m x y e =
     let both = and_parts (leb (d + n) deepest) rest t in
     let more = and_parts (ltb m d) (leb ((d - m) + x) deepest) both.1 in
     (leb-true (d + n) deepest both.0, ltb-true m d more.0, sym same))
-    (λ f. let none : None ≡ Some y = sym (cond-false test (Some ((d - m) + x)) None f) ∙ e in let z : ◌≡◌ {A = ℕ} 0 1 = cc in absurd (omega arith))
+    (λ f. absurd (cc (sym (cond-false test (Some ((d - m) + x)) None f) ∙ e)))
     (cases_Bool test)
 
 pub some_traced : {m n s t : ℕ} → m ≡ n → s ≡ t → Some (traced m s) ≡ Some (traced n t)

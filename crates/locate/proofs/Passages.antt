@@ -26,7 +26,7 @@ module _ (a : Automaton) (lawful : Lawful a) (text : List ℕ) where
   pub passage_told : (p : Passage) → reading (walk_measure a) text ≡ Some p → Told p
   passage_told p e =
       let told = walk_is a lawful text in
-      ⊎_elim (λ h. let over = bounded_over (passage a) text h in let z : ◌≡◌ {A = ℕ} 0 1 = cc in absurd (omega arith))
+      ⊎_elim (λ h. let over = bounded_over (passage a) text h in absurd (cc))
       (λ h.
       let within = bounded_within (passage a) text h in
       let same : p ≡ passage a text = cc in
@@ -36,4 +36,4 @@ module _ (a : Automaton) (lawful : Lawful a) (text : List ℕ) where
   -- Without a reading the text is overlong.
   pub overlong_told : None ≡ reading (walk_measure a) text → longest < length text
   overlong_told none =
-      ⊎_elim (λ h. h) (λ h. let within = bounded_within (passage a) text h in let is : None ≡ Some (passage a text) = none ∙ walk_is a lawful text ∙ within in let z : ◌≡◌ {A = ℕ} 0 1 = cc in absurd (omega arith)) (cases_lt longest (length text))
+      ⊎_elim (λ h. h) (λ h. let within = bounded_within (passage a) text h in let is : None ≡ Some (passage a text) = none ∙ walk_is a lawful text ∙ within in absurd (cc)) (cases_lt longest (length text))

@@ -45,12 +45,7 @@ module _ (chunks : List (List ℕ)) (from to : ℕ) (forward : from ≤ to) (ins
   covers_spots low high t =
       let s = spotted chunks low (omega (arith, t.ordered, t.within)) in
       let e = spotted chunks high t.within in
-      let sb = s.begins in
-      let eb = e.begins in
-      let ee = e.ends in
-      let ei = e.inside_it in
       let order = spots_ordered chunks low high _ _ s e t.ordered in
-      let known = e.some_chunk in
       covers_run chunks from to _ _ (omega arith) (omega arith) (omega (arith, t.low_before)) (omega (arith, t.high_behind))
 
   pub covers_touched : Covers chunks from to (touched chunks from to)
@@ -91,12 +86,7 @@ module _ (chunks : List (List ℕ)) (from to : ℕ) (forward : from ≤ to) (ins
         let t = told (omega arith) in
         let s = spotted chunks (first_byte from to) (omega (arith, t.ordered, t.within)) in
         let h = spotted chunks (last_byte from to) t.within in
-        let sb = s.begins in
-        let si = s.inside_it in
         let small = spot_small chunks each _ _ s in
-        let hb = h.begins in
-        let he = h.ends in
-        let hi = h.inside_it in
         let hsmall = spot_small chunks each _ _ h in
         omega (arith, t.low_near, t.high_near))
 
@@ -104,10 +94,6 @@ module _ (chunks : List (List ℕ)) (from to : ℕ) (forward : from ≤ to) (ins
     short_neighbour run c e =
         let starts = ap (λ (r : Run). r.start) c.is in
         let ends = ap (λ (r : Run). r.end) c.is in
-        let before = c.before in
-        let behind = c.behind in
-        let ordered = c.ordered in
-        let known = c.known in
         let j = middle_length run from to count in
         let little : j ≤ 31 = leb-true j 31 (and_parts (leb 1 j) (leb j 31) e).1 in
         cond_both (ltb run.last (length chunks)) (run_of chunks run.first (run.last + 1)) (cond (ltb 0 run.first) (run_of chunks (run.first - 1) run.last) run) (λ r. middle_length r from to count ≤ 128)
