@@ -36,9 +36,3 @@ returns-2 g c =
     let more = block_counted c.args.tree.now c.args.from at next c.loop-at.block c.copy.new.out _ c.loop-at.count c.line_ends_of.result c.copy.ensures.done c.copy.ensures.copied c.loop-at.invariant.forward (omega arith)
     (omega (arith, c.bytes.ensures.is, c.min-end.ensures)) (omega (arith, c.min-next.array_long)) (c.loop-at.invariant.counted ∙ ap (λ n. line_ends (between c.args.from n text)) before) c.line_ends_of.ensures in
     more ∙ ap (λ n. line_ends (between c.args.from n text)) behind ∙ to_end text c.args.from c.args.to
-
-pub returns : goal.returns
-returns g c =
-    let text = text_in c.args.tree.now in
-    let end : min c.loop-at.at c.min-end.result ≡ min c.args.to (length text) = omega (arith, c.loop-at-test.false, c.min-end.ensures, c.bytes.ensures.is) in
-    c.loop-at.invariant.counted ∙ ap (λ n. line_ends (between c.args.from n text)) end ∙ to_end text c.args.from c.args.to
