@@ -1,6 +1,7 @@
 -- The runs of chunks that the code puts together from spots, and the tests of an edit one after another.
 use Rattle.std.proofs.Common.{◌≡◌, ℕ, ◌+◌, ◌-◌, ◌<◌, ◌≤◌, Bool, true, cond, ◌&&◌, ltb, leb, List, length, Some, None, Ok, Err, Option, sym, refl, ap, ◌∙◌, subst, ⊎_elim, arith}
-use Rattle.std.specs.List.{AllByRecursion as All}
+use Rattle.std.specs.List.{All}
+use Rattle.std.proofs.lemmas.List.Elements.{recursion_from_All}
 use Rattle.std.proofs.lemmas.Bool.{cond-true, cond-false, lt-ltb, le-ltb, le-leb, lt-leb, leb-true, and_from, and_parts, cases_Bool}
 use Rattle.chunks.specs.Cut.{joined, Chunk, needed}
 use Rattle.chunks.specs.SizedSpot.{sized_spot_in}
@@ -53,7 +54,7 @@ module _ (cs : List (List ℕ)) (each : All Chunk cs) (run : Run) (is : run ≡ 
 
   pub right_told : run.last < length cs → (s : SizedSpot) → s ≡ sized_spot_in cs run.end → RightTold s
   right_told more s e =
-      let step = (start_step cs each run.last more).0 in
+      let step = (start_step cs (recursion_from_All Chunk cs each) run.last more).0 in
       let at_end = ends_at in
       let whole = start_within cs (run.last + 1) in
       let a = subst (Spotted cs run.end) (sym e) (spotted cs run.end (omega arith)) in
@@ -75,13 +76,13 @@ module _ (cs : List (List ℕ)) (each : All Chunk cs) (run : Run) (is : run ≡ 
   pub left_some : 0 < run.first → 1 ≤ run.start
   left_some some =
       let sum : run.first - 1 + 1 ≡ run.first = omega arith in
-      let step = (start_step cs each (run.first - 1) (omega arith)).0 in
+      let step = (start_step cs (recursion_from_All Chunk cs each) (run.first - 1) (omega arith)).0 in
       omega (arith, starts_at, ap (start cs) sum)
 
   pub left_told : length cs ≤ run.last → 0 < run.first → (s : SizedSpot) → s ≡ sized_spot_in cs (run.start - 1) → LeftTold s
   left_told none some s e =
       let sum : run.first - 1 + 1 ≡ run.first = omega arith in
-      let step = (start_step cs each (run.first - 1) (omega arith)).0 in
+      let step = (start_step cs (recursion_from_All Chunk cs each) (run.first - 1) (omega arith)).0 in
       let same = ap (start cs) sum in
       let at-start = starts_at in
       let whole = start_within cs run.first in

@@ -32,9 +32,6 @@ over_other n l u b e = goes n l u b ∙ ap Some (cond-false (ends_line b) _ _ e)
 abbrev over : Option Placed → List ℕ → Option Placed
 over o text = then o (λ x. through place_on x text)
 
-capped_twice : (x y : ℕ) → capped (capped x + y) ≡ capped (x + y)
-capped_twice x y = omega arith
-
 units_further : (u b : ℕ) (text : List ℕ) → ends_line b ≡ false → capped (base (capped (u + width b)) text + units text) ≡ capped (base u (b ∷ text) + units (b ∷ text))
 units_further u b text e =
     let count = no_end b text e in

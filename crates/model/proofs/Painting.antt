@@ -44,9 +44,6 @@ module _ (a : Automaton) (text : List ℕ) (from to : ℕ) (new screen : List �
   old_length : length_before change (length after) ≡ length text
   old_length = let long = edited_long text from to new forward inside in omega arith
 
-  old_end_within : old_end ≤ length text
-  old_end_within = let long = edited_long text from to new forward inside in omega (arith, ends.within)
-
   -- Before the edit nothing changed.
   front : take from screen ≡ take from (colours a after)
   front =

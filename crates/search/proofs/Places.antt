@@ -28,11 +28,6 @@ module _ (passes : ℕ → Bool) where
       ∙ least_is count (suc from) x (record { behind = omega arith; within = omega (arith, h.within); right = h.right; first = λ q k l. h.first q (omega arith) l }))
       (cases_eq from x)
 
-  pub least_none : (count from : ℕ) → ((q : ℕ) → from ≤ q → q < from + count → passes q ≡ false) → least passes from count ≡ None
-  least_none zero from h = refl
-  least_none (suc count) from h =
-      cond-false (passes from) (Some from) (least passes (suc from) count) (h from (omega arith) (omega arith)) ∙ least_none count (suc from) (λ q k l. h q (omega arith) (omega arith))
-
   pub least_found : (count from x : ℕ) → least passes from count ≡ Some x → Lowest passes from (from + count) x
   least_found zero from x e = absurd (cc)
   least_found (suc count) from x e =
@@ -70,10 +65,6 @@ module _ (passes : ℕ → Bool) where
       cond-false (passes bound) (Some bound) (greatest passes bound) (h.last bound under (omega arith))
       ∙ greatest_is bound x (record { below = under; right = h.right; last = λ q k l. h.last q k (omega arith) }))
       (cases_eq bound x)
-
-  pub greatest_none : (bound : ℕ) → ((q : ℕ) → q < bound → passes q ≡ false) → greatest passes bound ≡ None
-  greatest_none zero h = refl
-  greatest_none (suc bound) h = cond-false (passes bound) (Some bound) (greatest passes bound) (h bound (omega arith)) ∙ greatest_none bound (λ q k. h q (omega arith))
 
   pub greatest_found : (bound x : ℕ) → greatest passes bound ≡ Some x → Highest passes bound x
   greatest_found zero x e = absurd (cc)
