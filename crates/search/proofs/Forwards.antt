@@ -27,6 +27,14 @@ module _ {A : Type 0} where
   then_same None f g h = refl
   then_same (Some x) f g h = h x
 
+  -- A stop that is the end of a search in two texts, and one behind which it goes on.
+  pub after_stopped : (s first : Stop A) (go : A → Stop A) → s ≡ first → s.stopped ≡ true → s ≡ after first go
+  after_stopped s first go e stopped = e ∙ sym (cond-true first.stopped first (shifted first.passed (go first.at)) (sym (ap (λ z. z.stopped) e) ∙ stopped))
+
+  pub after_running : (s first : Stop A) (go : A → Stop A) → s ≡ first → s.stopped ≡ false → shifted s.passed (go s.at) ≡ after first go
+  after_running s first go e running =
+      ap (λ z. shifted z.passed (go z.at)) e ∙ sym (cond-false first.stopped first (shifted first.passed (go first.at)) (sym (ap (λ z. z.stopped) e) ∙ running))
+
   stop_or_same : (a : A) (o : Option A) (f g : A → Stop A) (go : A → Stop A) → ((x : A) → f x ≡ after (g x) go) → stop_or a o f ≡ after (stop_or a o g) go
   stop_or_same a None f g go h = refl
   stop_or_same a (Some x) f g go h = ap (shifted 1) (h x) ∙ shift_after 1 (g x) go
@@ -71,14 +79,7 @@ module _ {A : Type 0} (next : A → ℕ → Option A) where
 
   -- A search that stops in the first text has stopped in both; one that does not goes on behind it.
   pub stops_before : (a : A) (xs ys : List ℕ) (s : Stop A) → s ≡ stop next a xs → s.stopped ≡ true → s ≡ stop next a (xs ++ ys)
-  stops_before a xs ys s e stopped =
-      let first = stop next a xs in
-      let halts : first.stopped ≡ true = sym (ap (λ z. z.stopped) e) ∙ stopped in
-      e ∙ sym (stop_append a xs ys ∙ cond-true first.stopped first (shifted first.passed (stop next first.at ys)) halts)
+  stops_before a xs ys s e stopped = after_stopped s (stop next a xs) (λ x. stop next x ys) e stopped ∙ sym (stop_append a xs ys)
 
   pub goes_behind : (a : A) (xs ys : List ℕ) (s : Stop A) → s ≡ stop next a xs → s.stopped ≡ false → shifted s.passed (stop next s.at ys) ≡ stop next a (xs ++ ys)
-  goes_behind a xs ys s e running =
-      let first = stop next a xs in
-      let runs : first.stopped ≡ false = sym (ap (λ z. z.stopped) e) ∙ running in
-      ap (λ z. shifted z.passed (stop next z.at ys)) e
-      ∙ sym (stop_append a xs ys ∙ cond-false first.stopped first (shifted first.passed (stop next first.at ys)) runs)
+  goes_behind a xs ys s e running = after_running s (stop next a xs) (λ x. stop next x ys) e running ∙ sym (stop_append a xs ys)
