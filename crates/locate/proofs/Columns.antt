@@ -95,12 +95,12 @@ told text x e =
     (cases_lt longest (length text))
 
 -- A text whose reading tells that the line or the column lies behind it is passed.
-module _ (column : ℕ) (text : List ℕ) (x : Extent) (is : reading place_measure text ≡ Some x) (n u start : ℕ) (carries : start ≡ carried u x.lines) where
-  begins : start ≡ base u text
-  begins = carries ∙ ap (carried u) (told text x is).0
+module _ (column : ℕ) (text : List ℕ) (x : Extent) (is : reading place_measure text ≡ Some x) (at : Lined) (start : ℕ) (carries : start ≡ carried at.units x.lines) where
+  begins : start ≡ base at.units text
+  begins = carries ∙ ap (carried at.units) (told text x is).0
 
-  pub over_lines : x.lines < n → through (column_on column) (lined n u) text ≡ Some (lined (n - x.lines) start)
-  over_lines h = let lines = (told text x is).0 in passes_lines column text n u (omega arith) ∙ same_lined (omega arith) (sym begins)
+  pub over_lines : x.lines < at.lines → through (column_on column) at text ≡ Some (lined (at.lines - x.lines) start)
+  over_lines h = let lines = (told text x is).0 in passes_lines column text at.lines at.units (omega arith) ∙ same_lined (omega arith) (sym begins)
 
-  pub over_units : x.lines ≡ n → start + x.units ≤ column → through (column_on column) (lined n u) text ≡ Some (lined 0 (start + x.units))
-  over_units e h = let all = told text x is in let at = begins in passes_units column text n u (omega arith) (omega arith) ∙ same_lined refl (omega arith)
+  pub over_units : x.lines ≡ at.lines → start + x.units ≤ column → through (column_on column) at text ≡ Some (lined 0 (start + x.units))
+  over_units e h = let all = told text x is in let from = begins in passes_units column text at.lines at.units (omega arith) (omega arith) ∙ same_lined refl (omega arith)

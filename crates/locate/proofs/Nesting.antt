@@ -19,7 +19,9 @@ use Rattle.search.specs.Backwards.{forwards, leftwards, back_stop}
 use Rattle.locate.specs.Depth.{deepest, deeper, shallower, depth_ahead, depth_behind, depth_over}
 use Rattle.locate.specs.PartnerAhead.{nested, nested_in, ahead_on}
 use Rattle.locate.specs.PartnerBehind.{traced, trace_on, behind_on}
-use Rattle.locate.proofs.Passages.{passage_told}
+use Rattle.locate.specs.declared.nested.Nested.{Nested}
+use Rattle.locate.specs.declared.traced.Traced.{Traced}
+use Rattle.locate.proofs.Passages.{passage_told, overlong_told}
 
 pub goes_deeper : (d : ℕ) → d < deepest → deeper d ≡ Some (d + 1)
 goes_deeper d h = let same : capped (d + 1) ≡ d + 1 = omega arith in ap Some same
@@ -156,33 +158,40 @@ module _ (a : Automaton) where
       ap (λ (z : Stop ℕ). cond z.stopped z (leftwards z (depth_behind (role a s b) z.at))) rest ∙ over_behind (role a s b) b text s d refl h l
 
 -- What the searches pass by a reading.
-module _ (a : Automaton) (lawful : Lawful a) (text : List ℕ) (p : Passage) (is : reading (walk_measure a) text ≡ Some p) (s : ℕ) (x : Entry) (at : x ≡ entry_at p.entries s) where
-  long : p.length ≡ length text
-  long = (passage_told a lawful text p is).long
+module _ (a : Automaton) (lawful : Lawful a) (text : List ℕ) where
+  module _ (p : Passage) (is : reading (walk_measure a) text ≡ Some p) where
+    long : p.length ≡ length text
+    long = (passage_told a lawful text p is).long
 
-  there : x ≡ entry a s text
-  there = at ∙ (passage_told a lawful text p is).entries s
+    there : (s : ℕ) (x : Entry) → x ≡ entry_at p.entries s → x ≡ entry a s text
+    there s x at = at ∙ (passage_told a lawful text p is).entries s
 
-  ends : x.end ≡ walk a s text
-  ends = ap (λ (y : Entry). y.end) there
+    pub ahead_over_text : (w : Nested) (x : Entry) → x ≡ entry_at p.entries w.state → (depth : ℕ) → depth_over w.depth p.length x.closings x.openings ≡ Some depth → through (ahead_on a) w text ≡ Some (nested x.end depth)
+    ahead_over_text w x at depth e =
+        let told = over_tells w.depth p.length x.closings x.openings depth e in
+        let closings = ap (λ (y : Entry). y.closings) (there w.state x at) in
+        let openings = ap (λ (y : Entry). y.openings) (there w.state x at) in
+        passes_ahead a text w.state w.depth (omega (arith, long)) (omega arith) ∙ some_nested (sym (ap (λ (y : Entry). y.end) (there w.state x at))) (omega arith)
 
-  leaves_closings : x.closings ≡ unmatched_closings a s text
-  leaves_closings = ap (λ (y : Entry). y.closings) there
+    module _ (state : Option Traced) (from : Traced) (comes : state ≡ Some from) where
+      pub lost_over_text : longest - from.read < p.length → forwards (trace_on a) state text ≡ None
+      lost_over_text over = ap (λ f. forwards (trace_on a) f text) comes ∙ gets_lost a text from.read from.state (omega (arith, long))
 
-  leaves_openings : x.openings ≡ unmatched_openings a s text
-  leaves_openings = ap (λ (y : Entry). y.openings) there
+      module _ (x : Entry) (at : x ≡ entry_at p.entries from.state) (short : p.length ≤ longest - from.read) where
+        pub traced_over_text : forwards (trace_on a) state text ≡ Some (traced (from.read + p.length) x.end)
+        traced_over_text =
+            ap (λ f. forwards (trace_on a) f text) comes
+            ∙ traces a text from.read from.state (omega (arith, long))
+            ∙ some_traced (ap (λ n. from.read + n) (sym long)) (sym (ap (λ (y : Entry). y.end) (there from.state x at)))
 
-  pub ahead_over_text : (d depth : ℕ) → depth_over d p.length x.closings x.openings ≡ Some depth → through (ahead_on a) (nested s d) text ≡ Some (nested x.end depth)
-  ahead_over_text d depth e =
-      let told = over_tells d p.length x.closings x.openings depth e in
-      passes_ahead a text s d (omega (arith, long, told.0)) (omega (arith, leaves_closings, told.1))
-      ∙ some_nested (sym ends) (omega (arith, leaves_closings, leaves_openings, told.2))
+        pub behind_over_text : (d : ℕ) (o : Option ℕ) → o ≡ depth_over d p.length x.openings x.closings → IfSome o (λ depth. back_stop (trace_on a) (behind_on a) state text d ≡ ran (length text) depth)
+        behind_over_text d o e =
+            if_some o (λ depth is.
+            let told = over_tells d p.length x.openings x.closings depth (sym e ∙ is) in
+            let closings = ap (λ (y : Entry). y.closings) (there from.state x at) in
+            let openings = ap (λ (y : Entry). y.openings) (there from.state x at) in
+            ap (λ f. back_stop (trace_on a) (behind_on a) f text d) comes ∙ passes_behind a text from.read from.state d (omega (arith, long)) (omega (arith, long)) (omega arith) ∙ ap (ran (length text)) (omega arith))
 
-  pub traced_over_text : (read : ℕ) → p.length ≤ longest - read → forwards (trace_on a) (Some (traced read s)) text ≡ Some (traced (read + p.length) x.end)
-  traced_over_text read short = traces a text read s (omega (arith, long)) ∙ some_traced (ap (λ n. read + n) (sym long)) (sym ends)
-
-  pub behind_over_text : (read d depth : ℕ) → p.length ≤ longest - read → depth_over d p.length x.openings x.closings ≡ Some depth → back_stop (trace_on a) (behind_on a) (Some (traced read s)) text d ≡ ran (length text) depth
-  behind_over_text read d depth short e =
-      let told = over_tells d p.length x.openings x.closings depth e in
-      passes_behind a text read s d (omega (arith, long)) (omega (arith, long, told.0)) (omega (arith, leaves_openings, told.1))
-      ∙ ap (ran (length text)) (omega (arith, leaves_openings, leaves_closings, told.2))
+  pub lost_over_long : None ≡ reading (walk_measure a) text → (state : Option Traced) → forwards (trace_on a) state text ≡ None
+  lost_over_long none None = stays_lost a text
+  lost_over_long none (Some from) = let over = overlong_told a lawful text none in gets_lost a text from.read from.state (omega arith)

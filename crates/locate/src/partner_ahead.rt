@@ -32,6 +32,7 @@ impl<'g, G: Grammar> Forward for PartnerAhead<'g, G> {
     }
 
     // A text whose unmatched closings are fewer than the openings so far is run through.
+    #[tactic(auto, using(crate::proofs::Nesting::ahead_over_text))]
     fn pass(&self, at: Nested, reading: &Option<Passage>) -> Option<Nested> {
         let passage = reading.as_ref()?;
         let entry = passage.entry(at.state);
