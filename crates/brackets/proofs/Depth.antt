@@ -1,11 +1,12 @@
 -- Brackets counted from the start of a text: how many openings and closings lie before a place, and what they say of level places.
-use Rattle.std.proofs.Common.{◌≡◌, ℕ, ◌+◌, ◌-◌, ◌<◌, ◌≤◌, true, false, List, [], ◌∷◌, ◌++◌, length, get_or, take, drop, ltb, sym, ap, ◌∙◌, ⊎_elim, arith}
+use Rattle.std.proofs.Common.{◌≡◌, ℕ, ◌+◌, ◌-◌, ◌<◌, ◌≤◌, true, false, List, [], ◌∷◌, ◌++◌, length, get_or, take, drop, ltb, refl, sym, ap, ◌∙◌, ⊎_elim, arith}
 use Rattle.std.proofs.lemmas.List.{take_all, take_more}
 use Rattle.std.proofs.lemmas.Bool.{cases_lt, cond-true, cond-false, lt-ltb, le-ltb, eqb-true, eqb-false, eq-eqb, ne_eqb}
 use Rattle.std.proofs.Math.Seq.{take-add}
 use Rattle.automaton.specs.Automaton.{Automaton}
 use Rattle.automaton.specs.Bracket.{role}
 use Rattle.automaton.specs.Walk.{walk}
+use Rattle.automaton.specs.declared.role.Role.{Role}
 use Rattle.automaton.specs.declared.role.Role.TheVariants.{Plain}
 use Rattle.measure.specs.Unmatched.{opens, closes, openings_in, closings_in}
 use Rattle.measure.proofs.Unmatched.{openings_append, closings_append}
@@ -27,25 +28,18 @@ module _ (a : Automaton) (text : List ℕ) where
   ends : (n : ℕ) → length text ≤ n → take (n + 1) text ≡ take n text
   ends n h = take_all (n + 1) text (omega arith) ∙ sym (take_all n text h)
 
-  pub opened_more : (n : ℕ) → opened (n + 1) ≡ opened n + opens (role_at a text n)
-  opened_more n =
-      ⊎_elim
-      (λ h.
-      let front = take n text in
-      let more = ap (openings_in a 0) (take_more text n 0 h) ∙ openings_append a 0 front (get_or text n 0 ∷ []) in
-      omega (arith, ap opens (role_here n h)))
-      (λ h. let same = ap (openings_in a 0) (ends n h) in omega (arith, ap opens (role_outside n h)))
+  -- What is counted by the roles of bytes, one byte further.
+  counted_more : (count : List ℕ → ℕ) (by : Role → ℕ) → ((front : List ℕ) (b : ℕ) → count (front ++ (b ∷ [])) ≡ count front + by (role a (walk a 0 front) b)) → by Plain ≡ 0 → (n : ℕ) → count (take (n + 1) text) ≡ count (take n text) + by (role_at a text n)
+  counted_more count by more none n =
+      ⊎_elim (λ h. ap count (take_more text n 0 h) ∙ more (take n text) (get_or text n 0) ∙ ap (λ r. count (take n text) + by r) (sym (role_here n h)))
+      (λ h. let same = ap count (ends n h) in omega (arith, ap by (role_outside n h), none))
       (cases_lt n (length text))
 
+  pub opened_more : (n : ℕ) → opened (n + 1) ≡ opened n + opens (role_at a text n)
+  opened_more = counted_more (openings_in a 0) opens (λ front b. openings_append a 0 front (b ∷ []) ∙ omega arith) refl
+
   pub closed_more : (n : ℕ) → closed (n + 1) ≡ closed n + closes (role_at a text n)
-  closed_more n =
-      ⊎_elim
-      (λ h.
-      let front = take n text in
-      let more = ap (closings_in a 0) (take_more text n 0 h) ∙ closings_append a 0 front (get_or text n 0 ∷ []) in
-      omega (arith, ap closes (role_here n h)))
-      (λ h. let same = ap (closings_in a 0) (ends n h) in omega (arith, ap closes (role_outside n h)))
-      (cases_lt n (length text))
+  closed_more = counted_more (closings_in a 0) closes (λ front b. closings_append a 0 front (b ∷ []) ∙ omega arith) refl
 
   parts : (p q : ℕ) → p ≤ q + 1 → take (q + 1) text ≡ take p text ++ take ((q + 1) - p) (drop p text)
   parts p q h = let whole : q + 1 ≡ p + ((q + 1) - p) = omega arith in ap (λ n. take n text) whole ∙ take-add p ((q + 1) - p) text

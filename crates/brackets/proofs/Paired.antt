@@ -83,6 +83,9 @@ module _ (a : Automaton) (text : List ℕ) where
   same_kinds : (p q : ℕ) → agree a text q p ≡ agree a text p q
   same_kinds p q = turned (kind_of (role_at a text q)) (kind_of (role_at a text p))
 
+  answers : (p q : ℕ) (o : Option ℕ) → partner a text q ≡ told a text q o → o ≡ Some p → Answers p (told_of q (agree a text p q))
+  answers p q o by there = by ∙ ap (told a text q) there ∙ ap (λ t. Some (told_of p t)) (same_kinds p q)
+
   module _ (p : ℕ) (kind : BracketKind) (is : role_at a text p ≡ Opening kind) (q : ℕ) (found : Lowest (level a text p) (p + 1) (p + 1 + (length text - (p + 1))) q) where
     deep : (n : ℕ) → p < n → n ≤ q → Deeper p n
     deep = within_ahead p q (ap opens is) (λ r k l. found.first r (omega arith) l)
@@ -105,10 +108,7 @@ module _ (a : Automaton) (text : List ℕ) where
         })
 
     pub closing_answers : Answers p (told_of q (agree a text p q))
-    closing_answers =
-        ap (λ r. partner_by a text r q) closing_there.1
-        ∙ ap (told a text q) back_to
-        ∙ ap (λ t. Some (told_of p t)) (same_kinds p q)
+    closing_answers = answers p q (partner_behind a text q) (ap (λ r. partner_by a text r q) closing_there.1) back_to
 
   module _ (p : ℕ) (kind : BracketKind) (is : role_at a text p ≡ Closing kind) (within : p < length text) (q : ℕ) (found : Highest (λ r. level a text r p) p q) where
     deep_behind : (n : ℕ) → q < n → n ≤ p → Deeper (p + 1) n
@@ -134,13 +134,7 @@ module _ (a : Automaton) (text : List ℕ) where
         })
 
     pub opening_answers : Answers p (told_of q (agree a text p q))
-    opening_answers =
-        ap (λ r. partner_by a text r q) opening_there.1
-        ∙ ap (told a text q) ahead_to
-        ∙ ap (λ t. Some (told_of p t)) (same_kinds p q)
-
-  none_told : (x : Partner) → None ≡ Some x → ⊥
-  none_told x e = let z : ◌≡◌ {A = ℕ} 0 1 = cc in omega arith
+    opening_answers = answers p q (partner_ahead a text q) (ap (λ r. partner_by a text r q) opening_there.1) ahead_to
 
   abbrev ClosingAnswers : ℕ → Partner → Type 0
   ClosingAnswers p x = ((other : BracketKind) × (role_at a text x.place ≡ Closing other)) × Answers p x
@@ -149,14 +143,14 @@ module _ (a : Automaton) (text : List ℕ) where
   OpeningAnswers p x = ((other : BracketKind) × (role_at a text x.place ≡ Opening other)) × Answers p x
 
   pub pairs_ahead : (p : ℕ) (kind : BracketKind) (x : Partner) → role_at a text p ≡ Opening kind → (o : Option ℕ) → partner_ahead a text p ≡ o → told a text p o ≡ Some x → ClosingAnswers p x
-  pairs_ahead p kind x is None e t = absurd (none_told x t)
+  pairs_ahead p kind x is None e t = absurd (cc)
   pairs_ahead p kind x is (Some q) e t =
       let found = least_found (level a text p) (length text - (p + 1)) (p + 1) q e in
       let same : told_of q (agree a text p q) ≡ x = cc in
       subst (ClosingAnswers p) same (closing_there p kind is q found, closing_answers p kind is q found)
 
   pub pairs_behind : (p : ℕ) (kind : BracketKind) (x : Partner) → role_at a text p ≡ Closing kind → p < length text → (o : Option ℕ) → partner_behind a text p ≡ o → told a text p o ≡ Some x → OpeningAnswers p x
-  pairs_behind p kind x is within None e t = absurd (none_told x t)
+  pairs_behind p kind x is within None e t = absurd (cc)
   pairs_behind p kind x is within (Some q) e t =
       let found = greatest_found (λ r. level a text r p) p q e in
       let same : told_of q (agree a text p q) ≡ x = cc in

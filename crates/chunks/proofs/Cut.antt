@@ -123,9 +123,6 @@ module _ (bytes : List ℕ) (q : ℕ) where
       let rest = drop-drop (share j q (k + h)) (begin j q (k + h)) bytes in
       cc
 
-  pub part_none : (k : ℕ) → part bytes q k 0 ≡ []
-  part_none k = refl
-
   -- A chunk ends where the next one begins, and lies within the bytes.
   pub chunk_within : 0 < q → (k : ℕ) → k < q → begin (length bytes) q k + share (length bytes) q k ≤ length bytes
   chunk_within some k h =

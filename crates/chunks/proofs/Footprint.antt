@@ -10,9 +10,6 @@ one_same i = grind (arith, nat_tests)
 pub one_other : (i j : ℕ) → one i j ≡ 0 → i ≡ j → ⊥
 one_other i j = grind (arith, nat_tests)
 
-pub one_apart : (i j : ℕ) → (i ≡ j → ⊥) → one i j ≡ 0
-one_apart i j = grind (arith, nat_tests)
-
 pub count_append : (xs ys : List ℕ) (j : ℕ) → count (xs ++ ys) j ≡ count xs j + count ys j
 count_append [] ys j = omega arith
 count_append (x ∷ xs) ys j = omega (arith, count_append xs ys j)

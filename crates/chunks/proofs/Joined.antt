@@ -60,10 +60,8 @@ spotted_later c cs p h s at =
     let second : 1 + s.chunk + 1 ≡ suc (s.chunk + 1) = omega arith in
     let here = ap (start (c ∷ cs)) first ∙ one s.chunk in
     let next = ap (start (c ∷ cs)) second ∙ one (s.chunk + 1) in
-    let begins = at.begins in
-    let ends = at.ends in
     record {
-      some_chunk = omega (arith, at.some_chunk);
+      some_chunk = omega arith;
       begins = omega arith;
       inside_it = at.inside_it;
       ends = omega arith;
@@ -79,20 +77,20 @@ spotted (c ∷ cs) p h =
 -- Of chunk n itself: its first byte, if it has one, and its last byte have their spot in it.
 pub spotted_alone : (cs : List (List ℕ)) (p n : ℕ) (s : SizedSpot) → Spotted cs p s → start cs n ≤ p → p < start cs (n + 1) → s.chunk ≡ n
 spotted_alone cs p n s at low high =
-    ⊎_elim (λ h. let later = start_monotone cs (s.chunk + 1) n (omega arith) in let begins = at.begins in let ends = at.ends in let inside = at.inside_it in absurd (omega arith))
-    (λ h. ⊎_elim (λ k. let later = start_monotone cs (n + 1) s.chunk (omega arith) in let begins = at.begins in absurd (omega arith)) (λ k. omega arith) (cases_lt n s.chunk))
+    ⊎_elim (λ h. let later = start_monotone cs (s.chunk + 1) n (omega arith) in let begins = at.begins in absurd (omega arith))
+    (λ h. ⊎_elim (λ k. let later = start_monotone cs (n + 1) s.chunk (omega arith) in absurd (omega arith)) (λ k. omega arith) (cases_lt n s.chunk))
     (cases_lt s.chunk n)
 
 -- A place further on has its spot in no earlier chunk.
 pub spots_ordered : (cs : List (List ℕ)) (p q : ℕ) (s t : SizedSpot) → Spotted cs p s → Spotted cs q t → p ≤ q → s.chunk ≤ t.chunk
 spots_ordered cs p q s t at bt h =
-    ⊎_elim (λ k. let later = start_monotone cs (t.chunk + 1) s.chunk (omega arith) in let a = at.begins in let b = bt.begins in let c = bt.ends in let d = bt.inside_it in absurd (omega arith)) (λ k. k)
+    ⊎_elim (λ k. let later = start_monotone cs (t.chunk + 1) s.chunk (omega arith) in absurd (omega arith)) (λ k. k)
     (cases_lt t.chunk s.chunk)
 
 -- Chunks of 1 to 64 bytes.
 pub start_step : (cs : List (List ℕ)) → All Chunk cs → (n : ℕ) → n < length cs → (start cs n < start cs (n + 1)) × (start cs (n + 1) ≤ start cs n + 64)
 start_step [] each n h = absurd (omega arith)
-start_step (c ∷ cs) each zero h = let long = length-append c [] in let some = each.0.some_byte in let few = each.0.few_bytes in (omega arith, omega arith)
+start_step (c ∷ cs) each zero h = let long = length-append c [] in (omega arith, omega arith)
 start_step (c ∷ cs) each (suc n) h =
     let rest = start_step cs each.1 n (omega arith) in
     let low = rest.0 in
@@ -103,4 +101,4 @@ start_step (c ∷ cs) each (suc n) h =
     (omega arith, omega arith)
 
 pub spot_small : (cs : List (List ℕ)) → All Chunk cs → (p : ℕ) (s : SizedSpot) → Spotted cs p s → s.size ≤ 64
-spot_small cs each p s at = let step = (start_step cs each s.chunk at.some_chunk).1 in let ends = at.ends in omega arith
+spot_small cs each p s at = let step = (start_step cs each s.chunk at.some_chunk).1 in omega arith

@@ -41,11 +41,11 @@ root_around Right a i b = refl
 
 -- A tree with a slot on top has that slot between two sides, whichever is named first.
 pub opened : (s : Side) (t : Tree) (i : ℕ) → Some i ≡ root t → (a : Tree) × ((b : Tree) × (t ≡ around s a i b))
-opened s leaf i e = let z : ◌≡◌ {A = ℕ} 0 1 = cc in let no : ⊥ = omega arith in absurd no
+opened s leaf i e = absurd (cc)
 opened Left (node l k r) i e = (l, (r, (let same : k ≡ i = cc in ap (λ n. node l n r) same)))
 opened Right (node l k r) i e = (r, (l, (let same : k ≡ i = cc in ap (λ n. node l n r) same)))
 
 -- Where there is no slot on top there is no tree.
 pub leaf_if_none : (t : Tree) → None ≡ root t → t ≡ leaf
 leaf_if_none leaf e = refl
-leaf_if_none (node l k r) e = let z : ◌≡◌ {A = ℕ} 0 1 = cc in let no : ⊥ = omega arith in absurd no
+leaf_if_none (node l k r) e = absurd (cc)

@@ -3,6 +3,7 @@ use Rattle.std.proofs.Common.{◌≡◌, ℕ, ◌+◌, ◌-◌, ◌≤◌, Bool,
 use borrow.Rule.Slice.PartMut.{put_mid}
 use Rattle.std.specs.List.{between}
 use Rattle.std.proofs.lemmas.List.{length-append, length-take-le, length-drop, take_at}
+use Rattle.std.proofs.lemmas.List.Edits.{length-between}
 use Rattle.std.proofs.lemmas.Slice.{take-put_mid}
 use Rattle.std.proofs.lemmas.Bool.{le-leb, and_from, cond-true}
 use Rattle.automaton.specs.Automaton.{Automaton}
@@ -14,7 +15,7 @@ use Rattle.model.specs.declared.run.Run.{Run}
 use Rattle.model.specs.Edit.{edited_text, edited_chunks, affected, middle, middle_length}
 use Rattle.model.specs.End.{apart, edit_end}
 use Rattle.model.specs.Calls.{change_refusal}
-use Rattle.model.proofs.Editing.{length_between, middle_long, edit_leaves_text, edited_count}
+use Rattle.model.proofs.Editing.{middle_long, edit_leaves_text, edited_count}
 use Rattle.model.proofs.Ending.{edited_drop, edited_long}
 use Rattle.model.proofs.Runs.{Covers, covers_affected}
 use Rattle.tree.specs.declared.chunk_tree.ChunkTree.{ChunkTree}
@@ -48,7 +49,7 @@ pub copied_front : {R : Type 0} (T : ChunkTree R) (from to : ℕ) (out after : L
 copied_front T from to out after r answer is forward inside room =
     let part = between from to (text_in T) in
     let can : r ≡ true = answer ∙ and_from _ _ (le-leb from to forward) (and_from _ _ (le-leb to (length (text_in T)) inside) (le-leb (to - from) (length out) room)) in
-    let long : 0 + length part ≡ to - from = omega (arith, length_between from to (text_in T) inside) in
+    let long : 0 + length part ≡ to - from = omega (arith, length-between (text_in T) from to inside) in
     is ∙ cond-true r (pasted out 0 part) out can ∙ ap (λ n. part ++ drop n out) long
 
 -- The state behind the new bytes.
@@ -95,8 +96,7 @@ module _ {R : Type 0} (T : ChunkTree R) (from to : ℕ) (new : List ℕ) (passes
           let first = ap (λ (r : Run). r.first) is in
           let last = ap (λ (r : Run). r.last) is in
           let size : needed (length bytes) ≡ needed (middle_length (affected (chunks_now T) from to (length new)) from to (length new)) = ap needed (long ∙ ap (λ (r : Run). middle_length r from to (length new)) is) in
-          let few = lawful.few_chunks in
-          and_from _ _ (le-leb run.first run.last covers.ordered) (and_from _ _ (le-leb run.last (length (chunks_now T)) covers.known) (le-leb _ _ (omega (arith, count, first, last, size))))
+          and_from _ _ (le-leb run.first run.last covers.ordered) (and_from _ _ (le-leb run.last (length (chunks_now T)) covers.known) (le-leb _ _ (omega (arith, count, first, last, size, lawful.few_chunks))))
 
       pub replaced_is : replaced run.first run.last (cut bytes) (chunks_now T) ≡ edited_chunks (chunks_now T) from to new
       unfolding edited_chunks
@@ -105,15 +105,19 @@ module _ {R : Type 0} (T : ChunkTree R) (from to : ℕ) (new : List ℕ) (passes
           ∙ ap (λ (r : Run). replaced r.first r.last (cut (middle (text_in T) r from to new)) (chunks_now T)) is
 
   -- What the edit leaves.
-  module _ (after : ChunkTree R) (chunks : chunks_now after ≡ edited_chunks (chunks_now T) from to new) (usable : usable_of after ≡ usable_of T) (lent : lent_to after ≡ lent_to T) where
+  module _ (after : ChunkTree R) (chunks : chunks_now after ≡ edited_chunks (chunks_now T) from to new) where
     pub text_after : text_in after ≡ edited_text (text_in T) from to new
     text_after = ap joined chunks ∙ edit_leaves_text (chunks_now T) from to new forward inside
 
     pub text_long : length (text_in after) ≡ from + length new + (length (text_in T) - to)
     text_long = ap length text_after ∙ edited_long (text_in T) from to new forward inside
 
-    pub applied : (passed : ℕ) → passed ≤ length (drop (from + length new) (text_in after)) → Applied T from to new after (record { place = from; removed = to - from; inserted = length new; end = from + length new + passed })
-    applied passed within =
+    -- The end of the change is a place of the text after it, so it is small.
+    pub end_small : length (text_in T) ≤ 262144 → (passed : ℕ) → passed ≤ length (drop (from + length new) (text_in after)) → from + length new + passed ≤ 263168
+    end_small small passed within = let all = text_long in let low = forward in let high = inside in let few = few_bytes in omega (arith, length-drop (from + length new) (text_in after))
+
+    pub applied : usable_of after ≡ usable_of T → lent_to after ≡ lent_to T → (passed : ℕ) → passed ≤ length (drop (from + length new) (text_in after)) → Applied T from to new after (record { place = from; removed = to - from; inserted = length new; end = from + length new + passed })
+    applied usable lent passed within =
         let rest = length-drop (from + length new) (text_in after) in
         let all = text_long in
         record {

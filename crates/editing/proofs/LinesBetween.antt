@@ -1,14 +1,15 @@
 -- The line ends of a part of a text, block by block.
-use Rattle.std.proofs.Common.{◌≡◌, ℕ, ◌+◌, ◌-◌, ◌≤◌, min, Bool, true, false, cond, List, ◌++◌, length, take, drop, sym, refl, ap, ◌∙◌, arith, length-take, length-drop}
+use Rattle.std.proofs.Common.{◌≡◌, ℕ, ◌+◌, ◌-◌, ◌<◌, ◌≤◌, min, Bool, true, false, cond, List, ◌++◌, length, take, drop, sym, refl, ap, ◌∙◌, arith, length-take, length-drop}
 use Rattle.std.specs.List.{between, filter}
 use Rattle.std.proofs.lemmas.List.{take_min, take_at, take-append-drop, take-take, drop-append-le}
+use Rattle.std.proofs.lemmas.List.Edits.{length-between}
 use Rattle.std.proofs.lemmas.List.Sums.{length-filter}
 use Rattle.std.proofs.lemmas.List.Recursion.{is_count_by}
 use Rattle.std.proofs.lemmas.Slice.{between_is}
 use Rattle.measure.specs.Place.{ends_line, line_ends}
 use Rattle.measure.proofs.Place.{line_ends_append, line_ends_few}
 use Rattle.slots.specs.Copy.{pasted}
-use Rattle.model.proofs.Editing.{length_between}
+use Rattle.model.proofs.Editing.{take_between}
 use Rattle.tree.specs.declared.chunk_tree.ChunkTree.{ChunkTree}
 use Rattle.tree.specs.Public.{copyable}
 use Rattle.editing.specs.Content.{text_in}
@@ -29,10 +30,9 @@ ends_few bytes i = omega (arith, line_ends_few (take i bytes), length-take i byt
 -- One block more.
 block_more : (text : List ℕ) (from at next : ℕ) → from ≤ at → at ≤ next → next ≤ length text → line_ends (between from next text) ≡ line_ends (between from at text) + line_ends (between at next text)
 block_more text from at next f n w =
-    let split : take next text ≡ take at text ++ drop at (take next text) = sym (take-append-drop at (take next text)) ∙ ap (λ l. l ++ drop at (take next text)) (take-take at next text n) in
     ap line_ends
-    (between_is text from next ∙ ap (drop from) split ∙ drop-append-le from (take at text) (drop at (take next text)) (omega (arith, length-take at text))
-    ∙ ap (λ l. l ++ drop at (take next text)) (sym (between_is text from at)) ∙ ap (λ l. between from at text ++ l) (sym (between_is text at next)))
+    (between_is text from next ∙ ap (drop from) (sym (take_between at next text n)) ∙ drop-append-le from (take at text) (between at next text) (omega (arith, length-take at text))
+    ∙ ap (λ l. l ++ between at next text) (sym (between_is text from at)))
     ∙ line_ends_append (between from at text) (between at next text)
 
 pub between_few : (text : List ℕ) (from at : ℕ) → line_ends (between from at text) ≤ length text
@@ -43,14 +43,16 @@ block_front : {R : Type 0} (T : ChunkTree R) (at next : ℕ) (out after : List �
     at ≤ next → next ≤ length (text_in T) → next - at ≤ length out → line_ends (take (next - at) after) ≡ line_ends (between at next (text_in T))
 block_front T at next out after r answer is forward inside room =
     let block = between at next (text_in T) in
-    ap line_ends (ap (take (next - at)) (copied_front T at next out after r answer is forward inside room) ∙ take_at block (drop (next - at) out) (next - at) (length_between at next (text_in T) inside))
+    ap line_ends (ap (take (next - at)) (copied_front T at next out after r answer is forward inside room) ∙ take_at block (drop (next - at) out) (next - at) (length-between (text_in T) at next inside))
 
--- And counted.
-pub block_counted : {R : Type 0} (T : ChunkTree R) (from at next : ℕ) (out after : List ℕ) (r : Bool) (count ends : ℕ) → r ≡ copyable T at next out → after ≡ cond r (pasted out 0 (between at next (text_in T))) out →
-    from ≤ at → at ≤ next → next ≤ length (text_in T) → next - at ≤ length out → count ≡ line_ends (between from at (text_in T)) → ends ≡ line_ends (take (next - at) after) → count + ends ≡ line_ends (between from next (text_in T))
-block_counted T from at next out after r count ends answer is f forward inside room so-far more =
-    let block = block_front T at next out after r answer is forward inside room in
-    omega (arith, so-far, more, block, block_more (text_in T) from at next f forward inside)
+-- And counted, behind those before it.
+pub block_counted : {R : Type 0} (T : ChunkTree R) (from at end next : ℕ) (out after : List ℕ) (r : Bool) (count ends : ℕ) → r ≡ copyable T at next out → after ≡ cond r (pasted out 0 (between at next (text_in T))) out →
+    from ≤ at → at < end → end ≤ length (text_in T) → next ≡ min (at + 64) end → next - at ≤ length out → count ≡ line_ends (between from (min at end) (text_in T)) → ends ≡ line_ends (take (next - at) after) → count + ends ≡ line_ends (between from next (text_in T))
+block_counted T from at end next out after r count ends answer is f below inside next-is room so-far more =
+    let block = block_front T at next out after r answer is (omega arith) (omega arith) room in
+    let here : min at end ≡ at = omega arith in
+    let counted = so-far ∙ ap (λ n. line_ends (between from n (text_in T))) here in
+    omega (arith, block_more (text_in T) from at next f (omega arith) (omega arith))
 
 -- Blocks up to the end of the text, or of the part.
 pub to_end : (text : List ℕ) (from to : ℕ) → line_ends (between from (min to (length text)) text) ≡ line_ends (between from to text)

@@ -1,6 +1,7 @@
 -- The runs of chunks that the code puts together from spots, and the tests of an edit one after another.
 use Rattle.std.proofs.Common.{◌≡◌, ℕ, ◌+◌, ◌-◌, ◌<◌, ◌≤◌, Bool, true, cond, ◌&&◌, ltb, leb, List, length, Some, None, Ok, Err, Option, sym, refl, ap, ◌∙◌, subst, ⊎_elim, arith}
-use Rattle.std.specs.List.{AllByRecursion as All}
+use Rattle.std.specs.List.{All}
+use Rattle.std.proofs.lemmas.List.Elements.{recursion_from_All}
 use Rattle.std.proofs.lemmas.Bool.{cond-true, cond-false, lt-ltb, le-ltb, le-leb, lt-leb, leb-true, and_from, and_parts, cases_Bool}
 use Rattle.chunks.specs.Cut.{joined, Chunk, needed}
 use Rattle.chunks.specs.SizedSpot.{sized_spot_in}
@@ -17,10 +18,12 @@ use Rattle.model.specs.Model.{Model, text_of}
 same_run : (f f' l l' s s' e e' : ℕ) → f ≡ f' → l ≡ l' → s ≡ s' → e ≡ e' → ◌≡◌ {A = Run} (record { first = f; last = l; start = s; end = e }) (record { first = f'; last = l'; start = s'; end = e' })
 same_run f f' l l' s s' e e' p q u v = λ z. record { first = p z; last = q z; start = u z; end = v z }
 
+-- A place of the text is no further on than its spot is in its chunk.
+pub spot_inside : (cs : List (List ℕ)) (place : ℕ) → place < length (joined cs) → (sized_spot_in cs place).inside ≤ place
+spot_inside cs place h = let at = spotted cs place h in omega arith
+
 -- The chunks between two bytes, from the spots of the bytes.
 pub record SpotsTell (cs : List (List ℕ)) (low high : ℕ) (s t : SizedSpot) : Type 0 where
-  pub low_inside : s.inside ≤ low
-  pub high_inside : t.inside ≤ high
   pub end_within : high - t.inside + t.size ≤ length (joined cs)
   pub run_is : ◌≡◌ {A = Run} (record { first = s.chunk; last = t.chunk + 1; start = low - s.inside; end = high - t.inside + t.size }) (run_of cs (sized_spot_in cs low).chunk ((sized_spot_in cs high).chunk + 1))
 
@@ -28,16 +31,11 @@ pub spots_tell : (cs : List (List ℕ)) (low high : ℕ) (s t : SizedSpot) → l
 spots_tell cs low high s t order within is it =
     let a = subst (Spotted cs low) (sym is) (spotted cs low (omega arith)) in
     let b = subst (Spotted cs high) (sym it) (spotted cs high within) in
-    let ab = a.begins in
-    let bb = b.begins in
-    let be = b.ends in
     let first = ap (λ (x : SizedSpot). x.chunk) is in
     let last = ap (λ (x : SizedSpot). x.chunk + 1) it in
     let starts : low - s.inside ≡ start cs s.chunk = omega arith in
     let ends : high - t.inside + t.size ≡ start cs (t.chunk + 1) = omega arith in
     record {
-      low_inside = omega arith;
-      high_inside = omega arith;
       end_within = omega (arith, ends, start_within cs (t.chunk + 1));
       run_is = same_run _ _ _ _ _ _ _ _ first last (starts ∙ ap (start cs) first) (ends ∙ ap (start cs) last);
     }
@@ -56,7 +54,7 @@ module _ (cs : List (List ℕ)) (each : All Chunk cs) (run : Run) (is : run ≡ 
 
   pub right_told : run.last < length cs → (s : SizedSpot) → s ≡ sized_spot_in cs run.end → RightTold s
   right_told more s e =
-      let step = (start_step cs each run.last more).0 in
+      let step = (start_step cs (recursion_from_All Chunk cs each) run.last more).0 in
       let at_end = ends_at in
       let whole = start_within cs (run.last + 1) in
       let a = subst (Spotted cs run.end) (sym e) (spotted cs run.end (omega arith)) in
@@ -78,13 +76,13 @@ module _ (cs : List (List ℕ)) (each : All Chunk cs) (run : Run) (is : run ≡ 
   pub left_some : 0 < run.first → 1 ≤ run.start
   left_some some =
       let sum : run.first - 1 + 1 ≡ run.first = omega arith in
-      let step = (start_step cs each (run.first - 1) (omega arith)).0 in
+      let step = (start_step cs (recursion_from_All Chunk cs each) (run.first - 1) (omega arith)).0 in
       omega (arith, starts_at, ap (start cs) sum)
 
   pub left_told : length cs ≤ run.last → 0 < run.first → (s : SizedSpot) → s ≡ sized_spot_in cs (run.start - 1) → LeftTold s
   left_told none some s e =
       let sum : run.first - 1 + 1 ≡ run.first = omega arith in
-      let step = (start_step cs each (run.first - 1) (omega arith)).0 in
+      let step = (start_step cs (recursion_from_All Chunk cs each) (run.first - 1) (omega arith)).0 in
       let same = ap (start cs) sum in
       let at-start = starts_at in
       let whole = start_within cs run.first in
@@ -111,12 +109,9 @@ pub record Allowed (m : Model) (from to : ℕ) (new : List ℕ) : Type 0 where
 -- A test that let an answer pass.
 pub passed : (b : Bool) (r : Refusal) (next : Option Refusal) → unless b r next ≡ None → (b ≡ true) × (next ≡ None)
 passed b r next e =
-    ⊎_elim (λ t. (t, sym (cond-true b next (Some r) t) ∙ e)) (λ f. let z : ◌≡◌ {A = Option Refusal} (Some r) None = sym (cond-false b next (Some r) f) ∙ e in let no : ◌≡◌ {A = ℕ} 0 1 = cc in absurd (omega arith)) (cases_Bool b)
+    ⊎_elim (λ t. (t, sym (cond-true b next (Some r) t) ∙ e)) (λ f. absurd (cc (sym (cond-false b next (Some r) f) ∙ e))) (cases_Bool b)
 
 module _ (m : Model) (from to : ℕ) (new : List ℕ) where
-  abbrev range_test : Option Refusal → Option Refusal
-  range_test = unless (leb from to && leb to (length (text_of m))) (OutsideText to)
-
   abbrev count_test : Option Refusal → Option Refusal
   count_test = unless (leb (length new) 1024) (TooManyBytes (length new))
 
@@ -149,11 +144,7 @@ module _ (m : Model) (from to : ℕ) (new : List ℕ) where
 -- What an answer tells of the refusal in it.
 pub answered_ok : {X : Type 0} (o : Option Refusal) (x y : X) → answered o x ≡ Ok y → (o ≡ None) × (x ≡ y)
 answered_ok None x y e = (refl, cc)
-answered_ok (Some r) x y e = let no : ◌≡◌ {A = ℕ} 0 1 = cc in absurd (omega arith)
-
-pub answered_err : {X : Type 0} (o : Option Refusal) (x : X) (r : Refusal) → answered o x ≡ Err r → o ≡ Some r
-answered_err None x r e = let no : ◌≡◌ {A = ℕ} 0 1 = cc in absurd (omega arith)
-answered_err (Some q) x r e = cc
+answered_ok (Some r) x y e = absurd (cc)
 
 -- The chunks after an edit, counted from the run that it replaces.
 pub count_told : (cs : List (List ℕ)) (from to : ℕ) (new : List ℕ) (run : Run) → run ≡ affected cs from to (length new) → from ≤ to → to ≤ length (joined cs) →

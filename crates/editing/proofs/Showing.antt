@@ -4,17 +4,17 @@ use borrow.Rule.Slice.PartMut.{put_mid, post_of, Post-is}
 use lib.Seq.{paste}
 use Rattle.std.specs.List.{between}
 use Rattle.std.proofs.lemmas.List.{length-take-le, take_at, drop_at, take-append-le, take-take, drop_all, append-nil}
+use Rattle.std.proofs.lemmas.List.Edits.{length-between}
 use Rattle.std.proofs.lemmas.Bool.{le-leb, leb-true, and_from, and_parts, cond-true}
 use Rattle.automaton.specs.Automaton.{Automaton}
 use Rattle.automaton.specs.Walk.{colours_from, colours, state_before}
 use Rattle.automaton.proofs.Walk.{colours_length}
 use Rattle.model.specs.declared.change.Change.{Change}
-use Rattle.model.specs.Calls.{unless, range_refusal, with_front, fits, screen_refusal, fitting_refusal}
+use Rattle.model.specs.Calls.{unless, range_refusal, with_front, fits}
 use Rattle.model.specs.Model.{Model, text_of}
 use Rattle.model.specs.Paint.{painted, length_before}
-use Rattle.model.specs.declared.refusal.Refusal.TheVariants.{OutsideText, ShortBuffer, UnknownDue, ShortScreen}
+use Rattle.model.specs.declared.refusal.Refusal.TheVariants.{OutsideText, ShortBuffer}
 use Rattle.model.proofs.Painting.{take_colours, drop_colours}
-use Rattle.model.proofs.Editing.{length_between}
 use Rattle.editing.proofs.Planning.{passed}
 
 -- The colours of a range are those of its bytes, from the state before it.
@@ -40,8 +40,8 @@ coloured_front a text out one cells from to s forward inside state is made =
     let bytes = between from to text in
     let n = to - from in
     let same : n - 0 ≡ n = omega arith in
-    let long : length bytes ≡ n = length_between from to text inside in
-    let longer : length (between from to (colours a text)) ≡ n = length_between from to (colours a text) (omega (arith, colours_length a 0 text)) in
+    let long : length bytes ≡ n = length-between text from to inside in
+    let longer : length (between from to (colours a text)) ≡ n = length-between (colours a text) from to (omega (arith, colours_length a 0 text)) in
     let part : take (n - 0) one ≡ bytes = ap (λ k. take k one) same ∙ ap (take n) is ∙ take_at bytes (drop (length bytes) out) n long in
     let rest : drop (n - 0) one ≡ drop n out = ap (λ k. drop k one) same ∙ ap (drop n) is ∙ drop_at bytes (drop (length bytes) out) n long ∙ ap (λ k. drop k out) long in
     let shown : cells ≡ between from to (colours a text) = made ∙ ap (colours_from a s) part ∙ ap (λ x. colours_from a x bytes) state ∙ colours_between a text from to in
@@ -74,9 +74,3 @@ painted_is a text screen moved cells c low high wide old-wide few is shown =
 -- The tests of a paint.
 pub fits_parts : (c : Change) (n : ℕ) → fits c n ≡ true → (c.place + c.inserted ≤ c.end) × (c.end ≤ n)
 fits_parts c n e = let both = and_parts (leb (c.place + c.inserted) c.end) (leb c.end n) e in (leb-true (c.place + c.inserted) c.end both.0, leb-true c.end n both.1)
-
-pub paint_passes : (m : Model) (c : Change) (cells : ℕ) → fits c (length (text_of m)) ≡ true → length (text_of m) ≤ cells → length_before c (length (text_of m)) ≤ cells → fitting_refusal m c cells ≡ None
-paint_passes m c cells fit wide old =
-    let n = length (text_of m) in
-    cond-true (fits c n) (screen_refusal m c cells) (Some (UnknownDue c.place)) fit
-    ∙ cond-true (leb n cells && leb (length_before c n) cells) None (Some (ShortScreen cells)) (and_from _ _ (le-leb n cells wide) (le-leb (length_before c n) cells old))

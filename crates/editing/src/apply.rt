@@ -65,6 +65,7 @@ fn replace_run<R: Copy, M: Meter<Reading = R>>(
     ensures lent { lent_to tree.new ≡ lent_to tree.old }
     ensures keeps { KeptBy tree.old (M.scale meter.now) → KeptBy tree.new (M.scale meter.now) }
 {
+    // Memory is lent and fixed: below the host there is no heap.
     let mut middle = [0; MOST_MIDDLE];
     let length = fill_middle(tree, run, from, to, bytes, &mut middle);
     let _ = tree.replace(meter, run.first, run.last, &middle[0..length]);

@@ -19,6 +19,7 @@ pub fn line_ends_between<R: Copy>(tree: &ChunkTree<R>, from: u32, to: u32) -> u3
     ensures { result ≡ line_ends (between from to (text_in tree.now)) }
 {
     let end = to.min(tree.bytes());
+    // Memory is lent and fixed: below the host there is no heap.
     let mut block = [0u8; 64];
     let mut count = 0;
     for at in (from..end).step_by(64) {

@@ -16,6 +16,7 @@ const MOST_NEW: usize = 1024;
 const ENOUGH: usize = 32;
 
 // The chunks from that of byte `low` to that of byte `high`.
+#[tactic(auto, using(crate::proofs::Planning::spots_tell, crate::proofs::Planning::spot_inside))]
 fn run_between<R: Copy>(tree: &ChunkTree<R>, low: u32, high: u32) -> Run
     requires ordered { low ≤ high }
     requires within { high < length (text_in tree.now) }
@@ -33,6 +34,7 @@ fn run_between<R: Copy>(tree: &ChunkTree<R>, low: u32, high: u32) -> Run
 }
 
 // The chunks that an edit touches.
+#[tactic(auto, unfolding(model::specs::Edit::touched))]
 fn touched<R: Copy>(tree: &ChunkTree<R>, from: u32, to: u32) -> Run
     requires forward { from ≤ to }
     requires inside { to ≤ length (text_in tree.now) }
@@ -91,6 +93,7 @@ fn middle_length_of(run: Run, from: u32, to: u32, count: usize) -> usize
 }
 
 // The chunks that an edit replaces.
+#[tactic(auto, using(model::proofs::Runs::covers_touched), unfolding(model::specs::Edit::affected))]
 fn affected<R: Copy>(tree: &ChunkTree<R>, from: u32, to: u32, count: usize) -> Run
     requires forward { from ≤ to }
     requires inside { to ≤ length (text_in tree.now) }
@@ -108,6 +111,7 @@ fn affected<R: Copy>(tree: &ChunkTree<R>, from: u32, to: u32, count: usize) -> R
 }
 
 // The chunks that an edit replaces, or why the tree refuses it.
+#[tactic(auto, using(model::proofs::Runs::covers_affected))]
 pub fn plan<R: Copy>(tree: &ChunkTree<R>, from: u32, to: u32, bytes: &[u8]) -> Result<Run, Refusal>
     ensures is { result ≡ answered (change_refusal (model_in tree.now None) from to bytes.now) (affected_by (chunks_now tree.now) from to (length bytes.now)) }
     ensures short { IfOk result (λ run. middle_length run from to (length bytes.now) ≤ 1152) }

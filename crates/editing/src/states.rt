@@ -15,6 +15,7 @@ use tree::ChunkTree;
 use walks::{DocumentMeter, Readings};
 
 // The state before a place of the text, in a walk begun at its first byte.
+#[tactic(auto, using(locate::proofs::Walking::walk_comes_to_place))]
 pub fn state_before<X: Copy, G: Grammar, H: Meter<Reading = X>>(
     tree: &ChunkTree<Readings<X>>,
     meter: &DocumentMeter<G, H>,
@@ -36,6 +37,7 @@ pub fn state_before<X: Copy, G: Grammar, H: Meter<Reading = X>>(
 }
 
 // How far two walks go on from a place, one in each of the states, before they are in one state.
+#[tactic(auto, using(crate::proofs::Apart::stop_apart))]
 pub fn apart_from<X: Copy, G: Grammar, H: Meter<Reading = X>>(
     tree: &ChunkTree<Readings<X>>,
     meter: &DocumentMeter<G, H>,

@@ -88,8 +88,19 @@ module _ (column : ℕ) where
 pub told : (text : List ℕ) (x : Extent) → reading place_measure text ≡ Some x → (x.lines ≡ line_ends text) × (x.units ≡ units text) × (x.length ≡ length text)
 told text x e =
     let is = place_is text in
-    ⊎_elim (λ h. let over = bounded_over extent text h in let z : ◌≡◌ {A = ℕ} 0 1 = cc in absurd (omega arith))
+    ⊎_elim (λ h. let over = bounded_over extent text h in absurd (cc))
     (λ h. let within = bounded_within extent text h in
     let same : x ≡ extent text = cc in
     (ap (λ (y : Extent). y.lines) same, ap (λ (y : Extent). y.units) same, ap (λ (y : Extent). y.length) same))
     (cases_lt longest (length text))
+
+-- A text whose reading tells that the line or the column lies behind it is passed.
+module _ (column : ℕ) (text : List ℕ) (x : Extent) (is : reading place_measure text ≡ Some x) (at : Lined) (start : ℕ) (carries : start ≡ carried at.units x.lines) where
+  begins : start ≡ base at.units text
+  begins = carries ∙ ap (carried at.units) (told text x is).0
+
+  pub over_lines : x.lines < at.lines → through (column_on column) at text ≡ Some (lined (at.lines - x.lines) start)
+  over_lines h = let lines = (told text x is).0 in passes_lines column text at.lines at.units (omega arith) ∙ same_lined (omega arith) (sym begins)
+
+  pub over_units : x.lines ≡ at.lines → start + x.units ≤ column → through (column_on column) at text ≡ Some (lined 0 (start + x.units))
+  over_units e h = let all = told text x is in let from = begins in passes_units column text at.lines at.units (omega arith) (omega arith) ∙ same_lined refl (omega arith)

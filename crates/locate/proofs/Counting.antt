@@ -3,7 +3,7 @@ use Rattle.std.proofs.Common.{◌≡◌, ℕ, zero, suc, ◌+◌, ◌-◌, ◌�
 use Rattle.std.proofs.lemmas.List.{take-append-drop, length-take-le}
 use Rattle.std.proofs.lemmas.Bool.{cases_Bool, cases_eq, cases_lt, cond-true, cond-false, ne_eqb}
 use Rattle.measure.specs.Bounded.{longest, capped}
-use Rattle.measure.specs.Place.{ends_line, width, line_ends, units}
+use Rattle.measure.specs.Place.{ends_line, width, line_ends, units, place_measure}
 use Rattle.measure.proofs.Place.{line_ends_few, units_few}
 use Rattle.positions.proofs.Lines.{one_end, no_end, units_first, units_later}
 use Rattle.search.specs.declared.stop.Stop.{Stop}
@@ -11,7 +11,10 @@ use Rattle.search.specs.Forwards.{then, through, stop, after}
 use Rattle.search.proofs.Forwards.{stop_append, stop_through}
 use Rattle.locate.specs.AtPlace.{placed, counted, place_on, CountComesToPosition}
 use Rattle.locate.specs.declared.placed.Placed.{Placed}
-use Rattle.locate.proofs.Columns.{base, base_first, base_later, base_zero}
+use Rattle.locate.specs.Carried.{carried}
+use Rattle.locate.proofs.Columns.{base, base_first, base_later, base_zero, told}
+use Rattle.measure.specs.Measure.{reading}
+use Rattle.measure.specs.declared.place_reading.Extent.{Extent}
 
 -- The largest count.
 abbrev most : ℕ
@@ -31,9 +34,6 @@ over_other n l u b e = goes n l u b ∙ ap Some (cond-false (ends_line b) _ _ e)
 
 abbrev over : Option Placed → List ℕ → Option Placed
 over o text = then o (λ x. through place_on x text)
-
-capped_twice : (x y : ℕ) → capped (capped x + y) ≡ capped (x + y)
-capped_twice x y = omega arith
 
 units_further : (u b : ℕ) (text : List ℕ) → ends_line b ≡ false → capped (base (capped (u + width b)) text + units text) ≡ capped (base u (b ∷ text) + units (b ∷ text))
 units_further u b text e =
@@ -65,6 +65,14 @@ counts_through (b ∷ text) (suc n) l u h i j =
     ap (λ o. over o text) (over_other n l u b e) ∙ counts_through text n l (capped (u + width b)) (omega arith) (omega arith) (omega arith)
     ∙ same_placed (omega arith) (omega arith) (units_further u b text e))
     (cases_Bool (ends_line b))
+
+-- The same by the text's reading.
+pub over_counted : (text : List ℕ) (x : Extent) → reading place_measure text ≡ Some x → (at : Placed) (start left lines count : ℕ) → start ≡ carried at.units x.lines → x.length ≤ at.left → at.lines ≤ most → at.units ≤ most →
+    left ≡ at.left - x.length → lines ≡ capped (at.lines + x.lines) → count ≡ capped (start + x.units) → through place_on at text ≡ Some (placed left lines count)
+over_counted text x is at start left lines count carries short i j left-is lines-is count-is =
+    let all = told text x is in
+    let begins = carries ∙ ap (carried at.units) all.0 in
+    counts_through text at.left at.lines at.units (omega arith) i j ∙ same_placed (omega arith) (omega arith) (omega arith)
 
 -- Where no byte is left to the place, or none of the text, the search stays.
 stays : (n l u : ℕ) (text : List ℕ) → (n ≡ 0) ⊎ (length text ≡ 0) → (stop place_on (placed n l u) text).at ≡ placed n l u

@@ -1,12 +1,16 @@
 -- Searches for a partner over a whole text: where it leaves too few brackets to match the search's own, it is run through.
 use Rattle.std.proofs.Common.{◌≡◌, ℕ, suc, ◌+◌, ◌-◌, ◌<◌, ◌≤◌, false, cond, ◌&&◌, ltb, leb, List, [], ◌∷◌, length, Some, None, Option, IfSome, sym, refl, ap, ◌∙◌, ⊎_elim, arith}
 use Rattle.std.proofs.lemmas.Bool.{cases_Bool, cases_lt, and_parts, ltb-true, leb-true, cond-true, cond-false, lt-ltb, le-ltb, le-leb, lt-leb}
-use Rattle.automaton.specs.Automaton.{Automaton}
+use Rattle.automaton.specs.Automaton.{Automaton, Lawful}
 use Rattle.automaton.specs.Bracket.{role}
 use Rattle.automaton.specs.Walk.{walk}
 use Rattle.automaton.specs.declared.role.Role.{Role}
 use Rattle.automaton.specs.declared.role.Role.TheVariants.{Plain, Opening, Closing}
 use Rattle.measure.specs.Bounded.{longest, capped}
+use Rattle.measure.specs.Measure.{reading}
+use Rattle.measure.specs.Walk.{entry, entry_at, walk_measure}
+use Rattle.measure.specs.declared.walk_reading.Entry.{Entry}
+use Rattle.measure.specs.declared.walk_reading.Passage.{Passage}
 use Rattle.measure.specs.Unmatched.{opens, closes, unmatched_closings, unmatched_openings}
 use Rattle.measure.proofs.Unmatched.{one_role, leads, unmatched_few}
 use Rattle.search.specs.declared.stop.Stop.{Stop}
@@ -15,6 +19,9 @@ use Rattle.search.specs.Backwards.{forwards, leftwards, back_stop}
 use Rattle.locate.specs.Depth.{deepest, deeper, shallower, depth_ahead, depth_behind, depth_over}
 use Rattle.locate.specs.PartnerAhead.{nested, nested_in, ahead_on}
 use Rattle.locate.specs.PartnerBehind.{traced, trace_on, behind_on}
+use Rattle.locate.specs.declared.nested.Nested.{Nested}
+use Rattle.locate.specs.declared.traced.Traced.{Traced}
+use Rattle.locate.proofs.Passages.{passage_told, overlong_told}
 
 pub goes_deeper : (d : ℕ) → d < deepest → deeper d ≡ Some (d + 1)
 goes_deeper d h = let same : capped (d + 1) ≡ d + 1 = omega arith in ap Some same
@@ -42,7 +49,7 @@ over_tells d n m x y e =
     let both = and_parts (leb (d + n) deepest) rest t in
     let more = and_parts (ltb m d) (leb ((d - m) + x) deepest) both.1 in
     (leb-true (d + n) deepest both.0, ltb-true m d more.0, sym same))
-    (λ f. let none : None ≡ Some y = sym (cond-false test (Some ((d - m) + x)) None f) ∙ e in let z : ◌≡◌ {A = ℕ} 0 1 = cc in absurd (omega arith))
+    (λ f. absurd (cc (sym (cond-false test (Some ((d - m) + x)) None f) ∙ e)))
     (cases_Bool test)
 
 pub some_traced : {m n s t : ℕ} → m ≡ n → s ≡ t → Some (traced m s) ≡ Some (traced n t)
@@ -149,3 +156,42 @@ module _ (a : Automaton) where
       let fewer = fewer_openings b text s in
       let rest = ap (λ f. back_stop (trace_on a) (behind_on a) f text d) (cond-true (ltb read longest) (Some (traced (read + 1) t)) None (lt-ltb read longest (omega arith))) ∙ passes_behind text (read + 1) t d (omega arith) (omega arith) (omega arith) in
       ap (λ (z : Stop ℕ). cond z.stopped z (leftwards z (depth_behind (role a s b) z.at))) rest ∙ over_behind (role a s b) b text s d refl h l
+
+-- What the searches pass by a reading.
+module _ (a : Automaton) (lawful : Lawful a) (text : List ℕ) where
+  module _ (p : Passage) (is : reading (walk_measure a) text ≡ Some p) where
+    long : p.length ≡ length text
+    long = (passage_told a lawful text p is).long
+
+    there : (s : ℕ) (x : Entry) → x ≡ entry_at p.entries s → x ≡ entry a s text
+    there s x at = at ∙ (passage_told a lawful text p is).entries s
+
+    pub ahead_over_text : (w : Nested) (x : Entry) → x ≡ entry_at p.entries w.state → (depth : ℕ) → depth_over w.depth p.length x.closings x.openings ≡ Some depth → through (ahead_on a) w text ≡ Some (nested x.end depth)
+    ahead_over_text w x at depth e =
+        let told = over_tells w.depth p.length x.closings x.openings depth e in
+        let closings = ap (λ (y : Entry). y.closings) (there w.state x at) in
+        let openings = ap (λ (y : Entry). y.openings) (there w.state x at) in
+        passes_ahead a text w.state w.depth (omega (arith, long)) (omega arith) ∙ some_nested (sym (ap (λ (y : Entry). y.end) (there w.state x at))) (omega arith)
+
+    module _ (state : Option Traced) (from : Traced) (comes : state ≡ Some from) where
+      pub lost_over_text : longest - from.read < p.length → forwards (trace_on a) state text ≡ None
+      lost_over_text over = ap (λ f. forwards (trace_on a) f text) comes ∙ gets_lost a text from.read from.state (omega (arith, long))
+
+      module _ (x : Entry) (at : x ≡ entry_at p.entries from.state) (short : p.length ≤ longest - from.read) where
+        pub traced_over_text : forwards (trace_on a) state text ≡ Some (traced (from.read + p.length) x.end)
+        traced_over_text =
+            ap (λ f. forwards (trace_on a) f text) comes
+            ∙ traces a text from.read from.state (omega (arith, long))
+            ∙ some_traced (ap (λ n. from.read + n) (sym long)) (sym (ap (λ (y : Entry). y.end) (there from.state x at)))
+
+        pub behind_over_text : (d : ℕ) (o : Option ℕ) → o ≡ depth_over d p.length x.openings x.closings → IfSome o (λ depth. back_stop (trace_on a) (behind_on a) state text d ≡ ran (length text) depth)
+        behind_over_text d o e =
+            if_some o (λ depth is.
+            let told = over_tells d p.length x.openings x.closings depth (sym e ∙ is) in
+            let closings = ap (λ (y : Entry). y.closings) (there from.state x at) in
+            let openings = ap (λ (y : Entry). y.openings) (there from.state x at) in
+            ap (λ f. back_stop (trace_on a) (behind_on a) f text d) comes ∙ passes_behind a text from.read from.state d (omega (arith, long)) (omega (arith, long)) (omega arith) ∙ ap (ran (length text)) (omega arith))
+
+  pub lost_over_long : None ≡ reading (walk_measure a) text → (state : Option Traced) → forwards (trace_on a) state text ≡ None
+  lost_over_long none None = stays_lost a text
+  lost_over_long none (Some from) = let over = overlong_told a lawful text none in gets_lost a text from.read from.state (omega arith)

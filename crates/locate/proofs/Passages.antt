@@ -12,23 +12,28 @@ use Rattle.measure.proofs.Walk.{walk_is, outside_entry}
 use Rattle.measure.specs.declared.walk_reading.Passage.{Passage}
 
 module _ (a : Automaton) (lawful : Lawful a) (text : List ℕ) where
-  pub passage_told : (p : Passage) → reading (walk_measure a) text ≡ Some p → (length text ≤ longest) × (p ≡ passage a text)
-  passage_told p e =
-      let told = walk_is a lawful text in
-      ⊎_elim (λ h. let over = bounded_over (passage a) text h in let z : ◌≡◌ {A = ℕ} 0 1 = cc in absurd (omega arith))
-      (λ h. let within = bounded_within (passage a) text h in let same : p ≡ passage a text = cc in (h, same))
-      (cases_lt longest (length text))
-
-  -- Without a reading the text is overlong.
-  pub overlong_told : None ≡ reading (walk_measure a) text → longest < length text
-  overlong_told none =
-      ⊎_elim (λ h. h) (λ h. let within = bounded_within (passage a) text h in let is : None ≡ Some (passage a text) = none ∙ walk_is a lawful text ∙ within in let z : ◌≡◌ {A = ℕ} 0 1 = cc in absurd (omega arith)) (cases_lt longest (length text))
-
   entry_said : (s : ℕ) → entry_at (passage a text).entries s ≡ entry a s text
   entry_said s =
       ⊎_elim (λ h. get_d_rows (λ s. entry a s text) s (still s) h)
       (λ h. get_or_past (passage a text).entries s (still s) (omega (arith, length_rows (λ s. entry a s text))) ∙ sym (outside_entry a lawful s text (omega (arith, lawful.few_states))))
       (cases_lt s 64)
 
-  pub entry_told : (p : Passage) → p ≡ passage a text → (s : ℕ) → entry_at p.entries s ≡ entry a s text
-  entry_told p e s = ap (λ (q : Passage). entry_at q.entries s) e ∙ entry_said s
+  -- The passage of a text that is not overlong.
+  pub record Told (p : Passage) : Type 0 where
+    pub long : p.length ≡ length text
+    pub entries : (s : ℕ) → entry_at p.entries s ≡ entry a s text
+
+  pub passage_told : (p : Passage) → reading (walk_measure a) text ≡ Some p → Told p
+  passage_told p e =
+      let told = walk_is a lawful text in
+      ⊎_elim (λ h. let over = bounded_over (passage a) text h in absurd (cc))
+      (λ h.
+      let within = bounded_within (passage a) text h in
+      let same : p ≡ passage a text = cc in
+      record { long = ap (λ (q : Passage). q.length) same; entries = λ s. ap (λ (q : Passage). entry_at q.entries s) same ∙ entry_said s })
+      (cases_lt longest (length text))
+
+  -- Without a reading the text is overlong.
+  pub overlong_told : None ≡ reading (walk_measure a) text → longest < length text
+  overlong_told none =
+      ⊎_elim (λ h. h) (λ h. let within = bounded_within (passage a) text h in let is : None ≡ Some (passage a text) = none ∙ walk_is a lawful text ∙ within in absurd (cc)) (cases_lt longest (length text))

@@ -11,7 +11,7 @@ use Rattle.measure.specs.declared.walk_reading.Passage.{Passage}
 use Rattle.search.specs.Forwards.{then, through, stop, stop_or}
 use Rattle.locate.specs.StateBefore.{walked, walk_on, WalkComesToPlace}
 use Rattle.locate.specs.declared.walked.Walked.{Walked}
-use Rattle.locate.proofs.Passages.{passage_told, entry_told}
+use Rattle.locate.proofs.Passages.{passage_told}
 
 on_step : (a : Automaton) (s n b : ℕ) → walk_on a (walked (suc n) s) b ≡ Some (walked n (a.step s b))
 on_step a s n b =
@@ -34,8 +34,7 @@ walks_through a s (suc n) (b ∷ text) h =
 
 pub walked_over : (a : Automaton) → Lawful a → (at : Walked) (text : List ℕ) (p : Passage) → reading (walk_measure a) text ≡ Some p → p.length ≤ at.left → through (walk_on a) at text ≡ Some (walked (at.left - p.length) (entry_at p.entries at.state).end)
 walked_over a lawful at text p e short =
-    let is = (passage_told a lawful text p e).1 in
-    let long = ap (λ (q : Passage). q.length) is in
-    walks_through a at.state at.left text (omega (arith, long))
-    ∙ ap (λ k. Some (walked (at.left - k) (walk a at.state text))) (sym long)
-    ∙ ap (λ (x : Entry). Some (walked (at.left - p.length) x.end)) (sym (entry_told a lawful text p is at.state))
+    let told = passage_told a lawful text p e in
+    walks_through a at.state at.left text (omega (arith, told.long))
+    ∙ ap (λ k. Some (walked (at.left - k) (walk a at.state text))) (sym told.long)
+    ∙ ap (λ (x : Entry). Some (walked (at.left - p.length) x.end)) (sym (told.entries at.state))

@@ -4,7 +4,6 @@ use Rattle.std.specs.Prelude.{ℕ, ◌+◌, ◌-◌, ◌^◌, cond, ◌&&◌, So
 use Rattle.automaton.specs.declared.role.Role.{Role}
 use Rattle.automaton.specs.declared.role.Role.TheVariants.{Plain, Opening, Closing}
 use Rattle.measure.specs.Bounded.{capped}
-use Rattle.measure.specs.declared.walk_reading.Entry.{Entry}
 
 abbrev pub deeper : ℕ → Option ℕ
 deeper depth = Some (capped (depth + 1))
@@ -29,15 +28,8 @@ abbrev pub deepest : ℕ
 deepest = 2 ^ 32 - 1
 
 -- Over a text of so many bytes that leaves brackets unmatched: those that match some of the search's own, and those that add to them.
+-- From left to right closings match and openings add, from right to left it is the other way round.
 -- Nothing is said where the search may stop in the text, or where the count could come to its end.
 abbrev pub depth_over : ℕ → ℕ → ℕ → ℕ → Option ℕ
 depth_over depth length matching adding =
     cond (nat_le (depth + length) deepest && (nat_lt matching depth && nat_le ((depth - matching) + adding) deepest)) (Some ((depth - matching) + adding)) None
-
--- From left to right it is the text's closings that match the search's openings, and its openings that add to them.
-abbrev pub over_ahead : ℕ → ℕ → Entry → Option ℕ
-over_ahead depth length e = depth_over depth length e.closings e.openings
-
--- From right to left it is the other way round.
-abbrev pub over_behind : ℕ → ℕ → Entry → Option ℕ
-over_behind depth length e = depth_over depth length e.openings e.closings

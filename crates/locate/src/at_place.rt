@@ -39,6 +39,7 @@ impl Forward for AtPlace {
     }
 
     // A text that ends before the place is counted by one look at its extent.
+    #[tactic(auto, using(crate::proofs::Counting::over_counted))]
     fn pass(&self, at: Placed, reading: &Option<Extent>) -> Option<Placed> {
         let extent = reading.as_ref()?;
         Some(Placed {

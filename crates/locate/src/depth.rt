@@ -1,10 +1,9 @@
 // The depth of a search for a partner, over a byte of a role and over a text by the brackets that it leaves.
 // Each direction stays a match of its own: to turn a role round takes the same three arms.
 ghost use Rattle.std.specs.Prelude.{◌≡◌};
-ghost use Rattle.locate.specs.Depth.{deeper, shallower, depth_ahead, depth_behind, depth_over, over_ahead, over_behind};
+ghost use Rattle.locate.specs.Depth.{deeper, shallower, depth_ahead, depth_behind, depth_over};
 
 use automaton::role::Role;
-use measure::walk_reading::Entry;
 
 fn deeper(depth: u32) -> Option<u32>
     ensures { result ≡ deeper depth }
@@ -43,26 +42,13 @@ pub fn depth_behind(role: Role, depth: u32) -> Option<u32>
     }
 }
 
-// Over a text, in either direction, where the search cannot stop in it.
-fn depth_over(depth: u32, length: u32, matching: u32, adding: u32) -> Option<u32>
+// Over a text that leaves so many brackets unmatched, those that match the search's own and those that add to them,
+// where the search cannot stop in it.
+pub fn depth_over(depth: u32, length: u32, matching: u32, adding: u32) -> Option<u32>
     ensures { result ≡ depth_over depth length matching adding }
 {
     if depth > u32::MAX - length || depth <= matching {
         return None;
     }
     (depth - matching).checked_add(adding)
-}
-
-// From left to right over a text, by its entry.
-pub fn over_ahead(depth: u32, length: u32, entry: &Entry) -> Option<u32>
-    ensures { result ≡ over_ahead depth length entry.now }
-{
-    depth_over(depth, length, entry.closings, entry.openings)
-}
-
-// From right to left over a text, by its entry.
-pub fn over_behind(depth: u32, length: u32, entry: &Entry) -> Option<u32>
-    ensures { result ≡ over_behind depth length entry.now }
-{
-    depth_over(depth, length, entry.openings, entry.closings)
 }

@@ -45,6 +45,7 @@ impl Forward for InLine {
     }
 
     // A text that ends before the column's place is passed over by one look at its extent.
+    #[tactic(auto, using(crate::proofs::Columns::over_lines, crate::proofs::Columns::over_units))]
     fn pass(&self, at: Lined, reading: &Option<Extent>) -> Option<Lined> {
         let extent = reading.as_ref()?;
         let start = carried(at.units, extent);

@@ -4,6 +4,7 @@ ghost use Rattle.locate.specs.ComesToPartner.{AheadComesToPartner, BehindComesTo
 ghost use Rattle.locate.specs.InLine.{ColumnComesToSpot};
 ghost use Rattle.locate.specs.AtPlace.{CountComesToPosition};
 
+#[tactic(auto, using(crate::proofs::Walking::walk_comes_to_place))]
 pub fn walk_comes_to_place()
     ensures { WalkComesToPlace }
 {}
@@ -12,14 +13,17 @@ pub fn ahead_comes_to_partner()
     ensures { AheadComesToPartner }
 {}
 
+#[tactic(auto, using(crate::proofs::Partners::behind_comes_to_partner))]
 pub fn behind_comes_to_partner()
     ensures { BehindComesToPartner }
 {}
 
+#[tactic(auto, using(crate::proofs::Spots::column_comes_to_spot))]
 pub fn column_comes_to_spot()
     ensures { ColumnComesToSpot }
 {}
 
+#[tactic(auto, using(crate::proofs::Counting::count_comes_to_position))]
 pub fn count_comes_to_position()
     ensures { CountComesToPosition }
 {}

@@ -3,7 +3,7 @@ ghost use Rattle.std.specs.Prelude.{◌≡◌};
 ghost use Rattle.measure.specs.Walk.{walk_measure};
 ghost use Rattle.locate.specs.PartnerAhead.{ahead_on};
 
-use crate::depth::{depth_ahead, over_ahead};
+use crate::depth::{depth_ahead, depth_over};
 use crate::nested::Nested;
 use grammar::Grammar;
 use measure::walk_reading::Passage;
@@ -32,10 +32,11 @@ impl<'g, G: Grammar> Forward for PartnerAhead<'g, G> {
     }
 
     // A text whose unmatched closings are fewer than the openings so far is run through.
+    #[tactic(auto, using(crate::proofs::Nesting::ahead_over_text))]
     fn pass(&self, at: Nested, reading: &Option<Passage>) -> Option<Nested> {
         let passage = reading.as_ref()?;
         let entry = passage.entry(at.state);
-        let depth = over_ahead(at.depth, passage.length, &entry)?;
+        let depth = depth_over(at.depth, passage.length, entry.closings, entry.openings)?;
         Some(Nested {
             state: entry.end,
             depth,

@@ -3,7 +3,7 @@ ghost use Rattle.std.specs.Prelude.{◌≡◌};
 ghost use Rattle.measure.specs.Walk.{walk_measure};
 ghost use Rattle.locate.specs.PartnerBehind.{trace_on, behind_on};
 
-use crate::depth::{depth_behind, over_behind};
+use crate::depth::{depth_behind, depth_over};
 use crate::traced::Traced;
 use grammar::Grammar;
 use measure::walk_reading::Passage;
@@ -64,6 +64,6 @@ impl<'g, G: Grammar> Backward for PartnerBehind<'g, G> {
             return None;
         }
         let entry = passage.entry(from.state);
-        over_behind(at, passage.length, &entry)
+        depth_over(at, passage.length, entry.openings, entry.closings)
     }
 }

@@ -28,6 +28,7 @@ impl<'m, R: Copy, M: Meter> Side<R> for First<'m, M> {
 
     ghost whole = { λ s μ. pair_measure μ (M.scale s.0.now) };
 
+    #[tactic(auto, using(measure::proofs::Pair::pair_reading))]
     fn part<'r>(&self, reading: &'r PairReading<R, M::Reading>) -> &'r R {
         &reading.first
     }
@@ -42,6 +43,7 @@ impl<'m, R: Copy, M: Meter> Side<R> for Second<'m, M> {
 
     ghost whole = { λ s μ. pair_measure (M.scale s.0.now) μ };
 
+    #[tactic(auto, using(measure::proofs::Pair::pair_reading))]
     fn part<'r>(&self, reading: &'r PairReading<M::Reading, R>) -> &'r R {
         &reading.second
     }

@@ -30,6 +30,7 @@ impl<G: Grammar> Forward for StateBefore<G> {
     }
 
     // A text that ends before the place is walked through by one look at its entry.
+    #[tactic(auto, using(crate::proofs::Walking::walked_over))]
     fn pass(&self, at: Walked, reading: &Option<Passage>) -> Option<Walked> {
         let passage = reading.as_ref()?;
         Some(Walked {

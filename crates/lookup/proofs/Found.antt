@@ -1,5 +1,5 @@
 -- What a search for a partner that has ended tells.
-use Rattle.std.proofs.Common.{◌≡◌, ℕ, ◌+◌, ◌≤◌, Bool, true, false, cond, List, length, take, drop, Some, None, refl, ap, ◌∙◌, arith}
+use Rattle.std.proofs.Common.{◌≡◌, ℕ, ◌+◌, ◌-◌, ◌≤◌, Bool, true, false, cond, List, length, take, drop, Some, None, Option, refl, ap, ◌∙◌, arith}
 use Rattle.std.specs.Bool.{then_some}
 use Rattle.automaton.specs.Automaton.{Automaton}
 use Rattle.automaton.specs.Walk.{state_before}
@@ -22,9 +22,12 @@ then_is true m n e = ap Some e
 then_is false m n e = refl
 
 module _ (a : Automaton) (text : List ℕ) (p : ℕ) (kind : BracketKind) (short : length text ≤ longest) where
-  pub ahead : role_at a text p ≡ Opening kind → (state : ℕ) → state ≡ state_before a text (p + 1) → (s : Stop Nested) → s ≡ stop (ahead_on a) (nested state 1) (drop (p + 1) text) → stopped_before (p + 1) s ≡ partner_ahead a text p
-  ahead is state right s found =
-      ap (stopped_before (p + 1)) (found ∙ ap (λ z. stop (ahead_on a) (nested z 1) (drop (p + 1) text)) right) ∙ ahead_comes_to_partner a text p kind (omega arith) is
+  pub ahead : role_at a text p ≡ Opening kind → (state : ℕ) → state ≡ state_before a text (p + 1) → (s : Stop Nested) → s ≡ stop (ahead_on a) (nested state 1) (drop (p + 1) text) →
+      (o : Option ℕ) → o ≡ then_some s.stopped (p + 1 + s.passed) → o ≡ partner_ahead a text p
+  ahead is state right s found o told =
+      told ∙ then_is s.stopped _ _ refl
+      ∙ ap (stopped_before (p + 1)) (found ∙ ap (λ z. stop (ahead_on a) (nested z 1) (drop (p + 1) text)) right) ∙ ahead_comes_to_partner a text p kind (omega arith) is
 
-  pub behind : role_at a text p ≡ Closing kind → (s : Stop ℕ) → s ≡ back_stop (trace_on a) (behind_on a) (Some (traced 0 0)) (take p text) 1 → stopped_behind p s ≡ partner_behind a text p
-  behind is s found = ap (stopped_behind p) found ∙ behind_comes_to_partner a text p kind short is
+  pub behind : role_at a text p ≡ Closing kind → (s : Stop ℕ) → s ≡ back_stop (trace_on a) (behind_on a) (Some (traced 0 0)) (take p text) 1 →
+      (o : Option ℕ) (place : ℕ) → o ≡ then_some s.stopped place → place ≡ (p - s.passed) - 1 → o ≡ partner_behind a text p
+  behind is s found o place told at = told ∙ then_is s.stopped _ _ at ∙ ap (stopped_behind p) found ∙ behind_comes_to_partner a text p kind short is

@@ -34,6 +34,7 @@ fn byte_at<R: Copy>(tree: &ChunkTree<R>, place: u32) -> Option<u8>
     if place >= tree.bytes() {
         return None;
     }
+    // Memory is lent and fixed: below the host there is no heap.
     let mut byte = [0u8; 1];
     let _ = tree.copy(place, place + 1, &mut byte);
     Some(byte[0])

@@ -17,6 +17,7 @@ use tree::ChunkTree;
 use walks::DocumentMeter;
 
 // The line and the column of a place of the text, or of its end.
+#[tactic(auto, using(locate::proofs::Counting::count_comes_to_position))]
 pub fn place_of<X: Copy, G: Grammar, H: Meter<Reading = X>>(
     tree: &ChunkTree<Readings<X>>,
     meter: &DocumentMeter<G, H>,
@@ -45,6 +46,7 @@ pub fn place_of<X: Copy, G: Grammar, H: Meter<Reading = X>>(
 }
 
 // The last place of a line that is not past a column, where the text has the line.
+#[tactic(auto, using(locate::proofs::Spots::column_comes_to_spot, crate::proofs::Short::text_short))]
 pub fn spot_at<X: Copy, G: Grammar, H: Meter<Reading = X>>(
     tree: &ChunkTree<Readings<X>>,
     meter: &DocumentMeter<G, H>,

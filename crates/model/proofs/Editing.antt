@@ -1,6 +1,7 @@
 -- An edit's chunks have the edited text; how many they are.
 use Rattle.std.proofs.Common.{◌≡◌, ℕ, ◌+◌, ◌-◌, ◌≤◌, List, ◌++◌, length, take, drop, sym, ap, ◌∙◌, append_assoc, arith, take-add}
 use Rattle.std.specs.List.{between}
+use Rattle.std.proofs.lemmas.List.Edits.{length-between}
 use Rattle.std.proofs.lemmas.List.{length-append, length-drop, length-take-le, take-append-drop, drop-drop}
 use Rattle.chunks.specs.Cut.{joined, cut, needed}
 use Rattle.chunks.proofs.Cut.{cut_joined, cut_length}
@@ -18,9 +19,6 @@ pub between_drop : {X : Type 0} (i j : ℕ) (xs : List X) → i ≤ j → betwee
 between_drop i j xs h =
     let sum : i + (j - i) ≡ j = omega arith in
     ap (λ n. between i j xs ++ drop n xs) (sym sum) ∙ ap (λ l. between i j xs ++ l) (sym (drop-drop (j - i) i xs)) ∙ take-append-drop (j - i) (drop i xs)
-
-pub length_between : {X : Type 0} (i j : ℕ) (xs : List X) → j ≤ length xs → length (between i j xs) ≡ j - i
-length_between i j xs h = let rest = length-drop i xs in length-take-le (j - i) (drop i xs) (omega arith)
 
 -- The bytes that come in the place of a run, with what stands before and behind it, are the edited text.
 middle_around : (text : List ℕ) (run : Run) (from to : ℕ) (new : List ℕ) → run.start ≤ from → to ≤ run.end → take run.start text ++ (middle text run from to new ++ drop run.end text) ≡ edited_text text from to new
@@ -49,8 +47,8 @@ edit_leaves_text chunks from to new forward inside =
 pub middle_long : (text : List ℕ) (run : Run) (from to : ℕ) (new : List ℕ) → from ≤ length text → run.end ≤ length text → length (middle text run from to new) ≡ middle_length run from to (length new)
 middle_long text run from to new low high =
     length-append (between run.start from text) (new ++ between to run.end text)
-    ∙ ap (λ n. n + length (new ++ between to run.end text)) (length_between run.start from text low)
-    ∙ ap (λ n. (from - run.start) + n) (length-append new (between to run.end text) ∙ ap (λ n. length new + n) (length_between to run.end text high))
+    ∙ ap (λ n. n + length (new ++ between to run.end text)) (length-between text run.start from low)
+    ∙ ap (λ n. (from - run.start) + n) (length-append new (between to run.end text) ∙ ap (λ n. length new + n) (length-between text to run.end high))
 
 -- How many chunks there are after an edit.
 pub edited_count : (chunks : List (List ℕ)) (from to : ℕ) (new : List ℕ) → from ≤ to → to ≤ length (joined chunks) →

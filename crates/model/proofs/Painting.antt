@@ -2,6 +2,7 @@
 use Rattle.std.proofs.Common.{◌≡◌, ℕ, zero, suc, ◌+◌, ◌-◌, ◌≤◌, List, [], ◌∷◌, ◌++◌, length, take, drop, sym, refl, ap, ◌∙◌, ⊎_elim, append_assoc, arith}
 use Rattle.std.specs.List.{between}
 use Rattle.std.proofs.lemmas.List.{length-append, length-drop, length-take-le, take-take, take_at, take-append-drop, drop_all, drop-drop, take-append-le, drop-take}
+use Rattle.std.proofs.lemmas.Slice.{between_is}
 use Rattle.automaton.specs.Automaton.{Automaton}
 use Rattle.automaton.specs.Walk.{walk, colours_from, colours, state_before}
 use Rattle.automaton.proofs.Walk.{colours_length}
@@ -23,10 +24,6 @@ drop_colours a s zero xs = refl
 drop_colours a s (suc i) [] = refl
 drop_colours a s (suc i) (b ∷ xs) = drop_colours a (a.step s b) i xs
 
--- What a list has from a place up to the end of its first n, read off these first n.
-drop_front : {X : Type 0} (i n : ℕ) (xs : List X) → i ≤ n → drop i (take n xs) ≡ between i n xs
-drop_front i n xs h = let sum : i + (n - i) ≡ n = omega arith in ap (λ k. drop i (take k xs)) (sym sum) ∙ drop-take i (n - i) xs
-
 module _ (a : Automaton) (text : List ℕ) (from to : ℕ) (new screen : List ℕ) (forward : from ≤ to) (inside : to ≤ length text) (shown : ShowsText a text screen) where
   abbrev after : List ℕ
   after = edited_text text from to new
@@ -46,9 +43,6 @@ module _ (a : Automaton) (text : List ℕ) (from to : ℕ) (new screen : List �
 
   old_length : length_before change (length after) ≡ length text
   old_length = let long = edited_long text from to new forward inside in omega arith
-
-  old_end_within : old_end ≤ length text
-  old_end_within = let long = edited_long text from to new forward inside in omega (arith, ends.within)
 
   -- Before the edit nothing changed.
   front : take from screen ≡ take from (colours a after)
@@ -78,7 +72,7 @@ module _ (a : Automaton) (text : List ℕ) (from to : ℕ) (new screen : List �
   back : between old_end (length_before change (length after)) screen ≡ drop end (colours a after)
   back =
       ap (λ n. between old_end n screen) old_length
-      ∙ sym (drop_front old_end (length text) screen old_end_within)
+      ∙ between_is screen old_end (length text)
       ∙ ap (drop old_end) shown.cells
       ∙ sym same_rest
 
@@ -92,10 +86,7 @@ module _ (a : Automaton) (text : List ℕ) (from to : ℕ) (new screen : List �
       ∙ ap (λ l. take from cells ++ (mid ++ (l ++ rest))) back
       ∙ ap (λ l. take from cells ++ l) (sym (append_assoc mid (drop end cells) rest) ∙ ap (λ l. l ++ rest) (between_drop from end cells low))
       ∙ sym (append_assoc (take from cells) (drop from cells) rest)
-      ∙ ap (λ l. l ++ rest) (between_whole cells)
-    where
-      between_whole : (cells : List ℕ) → take from cells ++ drop from cells ≡ cells
-      between_whole cells = take-append-drop from cells
+      ∙ ap (λ l. l ++ rest) (take-append-drop from cells)
 
   pub painted_long : length after ≤ length screen → length (painted a after change screen) ≡ length screen
   painted_long wide =

@@ -45,12 +45,7 @@ module _ (chunks : List (List ℕ)) (from to : ℕ) (forward : from ≤ to) (ins
   covers_spots low high t =
       let s = spotted chunks low (omega (arith, t.ordered, t.within)) in
       let e = spotted chunks high t.within in
-      let sb = s.begins in
-      let eb = e.begins in
-      let ee = e.ends in
-      let ei = e.inside_it in
       let order = spots_ordered chunks low high _ _ s e t.ordered in
-      let known = e.some_chunk in
       covers_run chunks from to _ _ (omega arith) (omega arith) (omega (arith, t.low_before)) (omega (arith, t.high_behind))
 
   pub covers_touched : Covers chunks from to (touched chunks from to)
@@ -60,20 +55,18 @@ module _ (chunks : List (List ℕ)) (from to : ℕ) (forward : from ≤ to) (ins
       (λ e. let none = eqb-true (length (joined chunks)) 0 e in covers_run chunks from to 0 0 (omega arith) (omega arith) (omega arith) (omega arith))
       (λ e. let some = eqb-false (length (joined chunks)) 0 e in covers_spots _ _ (told (omega arith)))
 
+  -- A run that holds one which covers the range covers it too.
+  covers_wider : (run : Run) → Covers chunks from to run → (first last : ℕ) → first ≤ run.first → run.last ≤ last → last ≤ length chunks → Covers chunks from to (run_of chunks first last)
+  covers_wider run c first last low high known =
+      covers_run chunks from to first last (omega (arith, c.ordered)) known
+      (omega (arith, start_monotone chunks first run.first low, ap (λ (r : Run). r.start) c.is, c.before))
+      (omega (arith, start_monotone chunks run.last last high, ap (λ (r : Run). r.end) c.is, c.behind))
+
   pub covers_neighbour : (run : Run) → Covers chunks from to run → Covers chunks from to (with_neighbour chunks run)
   covers_neighbour run c =
-      let starts = ap (λ (r : Run). r.start) c.is in
-      let ends = ap (λ (r : Run). r.end) c.is in
-      let before = c.before in
-      let behind = c.behind in
-      let ordered = c.ordered in
-      let known = c.known in
-      let further = start_monotone chunks run.last (run.last + 1) (omega arith) in
-      let earlier = start_monotone chunks (run.first - 1) run.first (omega arith) in
       cond_both (ltb run.last (length chunks)) (run_of chunks run.first (run.last + 1)) (cond (ltb 0 run.first) (run_of chunks (run.first - 1) run.last) run) (Covers chunks from to)
-      (λ e. let more = ltb-true run.last (length chunks) e in covers_run chunks from to run.first (run.last + 1) (omega arith) (omega arith) (omega arith) (omega arith))
-      (λ e. cond_both (ltb 0 run.first) (run_of chunks (run.first - 1) run.last) run (Covers chunks from to)
-      (λ h. covers_run chunks from to (run.first - 1) run.last (omega arith) (omega arith) (omega arith) (omega arith)) (λ h. c))
+      (λ e. let more = ltb-true run.last (length chunks) e in covers_wider run c run.first (run.last + 1) (omega arith) (omega arith) (omega arith))
+      (λ e. cond_both (ltb 0 run.first) (run_of chunks (run.first - 1) run.last) run (Covers chunks from to) (λ h. covers_wider run c (run.first - 1) run.last (omega arith) (omega arith) c.known) (λ h. c))
 
   pub covers_affected : (count : ℕ) → Covers chunks from to (affected chunks from to count)
   unfolding affected
@@ -93,12 +86,7 @@ module _ (chunks : List (List ℕ)) (from to : ℕ) (forward : from ≤ to) (ins
         let t = told (omega arith) in
         let s = spotted chunks (first_byte from to) (omega (arith, t.ordered, t.within)) in
         let h = spotted chunks (last_byte from to) t.within in
-        let sb = s.begins in
-        let si = s.inside_it in
         let small = spot_small chunks each _ _ s in
-        let hb = h.begins in
-        let he = h.ends in
-        let hi = h.inside_it in
         let hsmall = spot_small chunks each _ _ h in
         omega (arith, t.low_near, t.high_near))
 
@@ -106,10 +94,6 @@ module _ (chunks : List (List ℕ)) (from to : ℕ) (forward : from ≤ to) (ins
     short_neighbour run c e =
         let starts = ap (λ (r : Run). r.start) c.is in
         let ends = ap (λ (r : Run). r.end) c.is in
-        let before = c.before in
-        let behind = c.behind in
-        let ordered = c.ordered in
-        let known = c.known in
         let j = middle_length run from to count in
         let little : j ≤ 31 = leb-true j 31 (and_parts (leb 1 j) (leb j 31) e).1 in
         cond_both (ltb run.last (length chunks)) (run_of chunks run.first (run.last + 1)) (cond (ltb 0 run.first) (run_of chunks (run.first - 1) run.last) run) (λ r. middle_length r from to count ≤ 128)

@@ -1,9 +1,10 @@
 -- The spot of a line and a column, and that it undoes a position.
-use Rattle.std.proofs.Common.{◌≡◌, ℕ, ◌+◌, ◌≤◌, true, eqb, leb, List, length, refl, sym, ap, ◌∙◌, arith}
-use Rattle.std.proofs.lemmas.Bool.{and_parts, and_from, eqb-true, leb-true, eq-eqb, le-leb}
+use Rattle.std.proofs.Common.{◌≡◌, ℕ, ◌+◌, ◌≤◌, true, eqb, leb, List, length, Some, None, Option, unwrap_or, refl, sym, ap, ◌∙◌, ⊎_elim, arith}
+use Rattle.std.proofs.lemmas.Bool.{and_parts, and_from, both_ways, cases_Bool, cases_lt, eqb-true, leb-true, eq-eqb, le-leb}
 use Rattle.positions.specs.Position.{line_of, column_of, in_line, spot}
 use Rattle.positions.specs.Laws.{LastOnLine, SpotIsLargest, SpotUndoesPosition}
-use Rattle.positions.proofs.Places.{Greatest, greatest_told, greatest_is}
+use Rattle.search.specs.Places.{greatest}
+use Rattle.search.proofs.Places.{Highest, greatest_is, greatest_found, greatest_missed}
 use Rattle.positions.proofs.Lines.{line_begins, positions_ascend}
 
 module _ (text : List ℕ) (line column : ℕ) where
@@ -15,19 +16,33 @@ module _ (text : List ℕ) (line column : ℕ) where
       let both = and_parts (eqb (line_of text p) line) (leb (column_of text p) column) e in
       (eqb-true (line_of text p) line both.0, leb-true (column_of text p) column both.1)
 
-  told : (q : ℕ) → Greatest (in_line text line column) (length text + 1) q → LastOnLine text line column q
+  told : (q : ℕ) → Highest (in_line text line column) (length text + 1) q → LastOnLine text line column q
   told q g =
-      let here = passed q g.passed in
-      record { within = omega (arith, g.below); on_line = here.0; not_past = here.1; last = λ p w e h. g.last p (omega arith) (passes p e h) }
+      let here = passed q g.right in
+      record {
+        within = omega (arith, g.below);
+        on_line = here.0;
+        not_past = here.1;
+        last = λ p w e h. ⊎_elim (λ l. absurd (both_ways (in_line text line column p) (g.last p l (omega arith)) (passes p e h))) (λ l. l) (cases_lt q p);
+      }
 
   -- What is told of the spot of a line and a column is told of no other place.
   pub spot_alone : (q : ℕ) → LastOnLine text line column q → spot text line column ≡ q
   spot_alone q l =
-      greatest_is (in_line text line column) (length text + 1) q
-      (record { below = omega (arith, l.within); passed = passes q l.on_line l.not_past; last = λ p w e. let here = passed p e in l.last p (omega arith) here.0 here.1 })
+      ap (λ o. unwrap_or o 0)
+      (greatest_is (in_line text line column) (length text + 1) q
+      (record {
+        below = omega (arith, l.within);
+        right = passes q l.on_line l.not_past;
+        last = λ p above w. ⊎_elim (λ t. let here = passed p t in absurd (omega (arith, l.last p (omega arith) here.0 here.1))) (λ f. f) (cases_Bool (in_line text line column p));
+      }))
 
   pub spot_there : (p : ℕ) → p ≤ length text → line_of text p ≡ line → column_of text p ≤ column → LastOnLine text line column (spot text line column)
-  spot_there p w e h = told (spot text line column) (greatest_told (in_line text line column) (length text + 1) p (omega arith) (passes p e h))
+  spot_there p w e h = by (greatest (in_line text line column) (length text + 1)) refl
+    where
+      by : (o : Option ℕ) → greatest (in_line text line column) (length text + 1) ≡ o → LastOnLine text line column (unwrap_or o 0)
+      by None none = absurd (both_ways (in_line text line column p) (greatest_missed (in_line text line column) (length text + 1) none p (omega arith)) (passes p e h))
+      by (Some q) some = told q (greatest_found (in_line text line column) (length text + 1) q some)
 
 pub spot_is_largest : SpotIsLargest
 spot_is_largest text line column h =

@@ -5,6 +5,7 @@ use Rattle.std.proofs.lemmas.Bool.{cond-true, cond-false, cond_both, cases_lt}
 use Rattle.search.specs.declared.stop.Stop.{Stop}
 use Rattle.search.specs.Forwards.{shifted, after}
 use Rattle.search.specs.Backwards.{forwards, leftwards, back_stop}
+use Rattle.search.proofs.Forwards.{after_stopped, after_running}
 
 module _ {A : Type 0} where
   abbrev stop_of : ℕ → A → Bool → Stop A
@@ -60,17 +61,10 @@ module _ {F A : Type 0} (fore : F → ℕ → F) (prev : F → ℕ → A → Opt
 
   -- A search that stops in the second text has stopped in both; one that does not goes on before it.
   pub stops_behind : (f : F) (xs ys : List ℕ) (a : A) (s : Stop A) → s ≡ back_stop fore prev (forwards fore f xs) ys a → s.stopped ≡ true → s ≡ back_stop fore prev f (xs ++ ys) a
-  stops_behind f xs ys a s e stopped =
-      let last = back_stop fore prev (forwards fore f xs) ys a in
-      let halts : last.stopped ≡ true = sym (ap (λ z. z.stopped) e) ∙ stopped in
-      e ∙ sym (back_stop_append fore prev f xs ys a ∙ cond-true last.stopped last (shifted last.passed (back_stop fore prev f xs last.at)) halts)
+  stops_behind f xs ys a s e stopped = after_stopped s (back_stop fore prev (forwards fore f xs) ys a) (λ x. back_stop fore prev f xs x) e stopped ∙ sym (back_stop_append fore prev f xs ys a)
 
   pub goes_before : (f : F) (xs ys : List ℕ) (a : A) (s : Stop A) → s ≡ back_stop fore prev (forwards fore f xs) ys a → s.stopped ≡ false → shifted s.passed (back_stop fore prev f xs s.at) ≡ back_stop fore prev f (xs ++ ys) a
-  goes_before f xs ys a s e running =
-      let last = back_stop fore prev (forwards fore f xs) ys a in
-      let runs : last.stopped ≡ false = sym (ap (λ z. z.stopped) e) ∙ running in
-      ap (λ z. shifted z.passed (back_stop fore prev f xs z.at)) e
-      ∙ sym (back_stop_append fore prev f xs ys a ∙ cond-false last.stopped last (shifted last.passed (back_stop fore prev f xs last.at)) runs)
+  goes_before f xs ys a s e running = after_running s (back_stop fore prev (forwards fore f xs) ys a) (λ x. back_stop fore prev f xs x) e running ∙ sym (back_stop_append fore prev f xs ys a)
 
   -- The bytes before a place that lie behind a text: the state before them is that behind the text.
   pub state_behind : (f : F) (n : ℕ) (xs ys : List ℕ) (a : A) → back_stop fore prev (forwards fore f xs) (take (n - length xs) ys) a ≡ back_stop fore prev (forwards fore f (take n xs)) (take (n - length xs) ys) a

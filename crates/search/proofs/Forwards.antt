@@ -27,6 +27,14 @@ module _ {A : Type 0} where
   then_same None f g h = refl
   then_same (Some x) f g h = h x
 
+  -- A stop that is the end of a search in two texts, and one behind which it goes on.
+  pub after_stopped : (s first : Stop A) (go : A → Stop A) → s ≡ first → s.stopped ≡ true → s ≡ after first go
+  after_stopped s first go e stopped = e ∙ sym (cond-true first.stopped first (shifted first.passed (go first.at)) (sym (ap (λ z. z.stopped) e) ∙ stopped))
+
+  pub after_running : (s first : Stop A) (go : A → Stop A) → s ≡ first → s.stopped ≡ false → shifted s.passed (go s.at) ≡ after first go
+  after_running s first go e running =
+      ap (λ z. shifted z.passed (go z.at)) e ∙ sym (cond-false first.stopped first (shifted first.passed (go first.at)) (sym (ap (λ z. z.stopped) e) ∙ running))
+
   stop_or_same : (a : A) (o : Option A) (f g : A → Stop A) (go : A → Stop A) → ((x : A) → f x ≡ after (g x) go) → stop_or a o f ≡ after (stop_or a o g) go
   stop_or_same a None f g go h = refl
   stop_or_same a (Some x) f g go h = ap (shifted 1) (h x) ∙ shift_after 1 (g x) go
@@ -48,15 +56,15 @@ module _ {A : Type 0} (next : A → ℕ → Option A) where
   stop_through a (b ∷ xs) x e = on (next a b) (λ z h. stop_through z xs x h) e
     where
       on : (o : Option A) → ((z : A) → through next z xs ≡ Some x → stop next z xs ≡ stop_of (length xs) x false) → then o (λ z. through next z xs) ≡ Some x → stop_or a o (λ z. stop next z xs) ≡ stop_of (suc (length xs)) x false
-      on None h f = let z : ◌≡◌ {A = ℕ} 0 1 = cc in absurd (omega arith)
+      on None h f = absurd (cc)
       on (Some z) h f = ap (shifted 1) (h z f) ∙ ap (λ n. stop_of n x false) (omega arith)
 
   pub stops_at : (a : A) (xs : List ℕ) → StopsAt next a xs (stop next a xs)
-  stops_at a [] = record { within = omega arith; runs = refl; before_byte = λ h. let z : ◌≡◌ {A = ℕ} 0 1 = cc in absurd (omega arith); at_end = λ h. refl }
+  stops_at a [] = record { within = omega arith; runs = refl; before_byte = λ h. absurd (cc); at_end = λ h. refl }
   stops_at a (b ∷ xs) = on (next a b) refl (λ x. stops_at x xs)
     where
       on : (o : Option A) → next a b ≡ o → ((x : A) → StopsAt next x xs (stop next x xs)) → StopsAt next a (b ∷ xs) (stop_or a o (λ x. stop next x xs))
-      on None e h = record { within = omega arith; runs = refl; before_byte = λ k. (omega arith, e); at_end = λ k. let z : ◌≡◌ {A = ℕ} 0 1 = cc in absurd (omega arith) }
+      on None e h = record { within = omega arith; runs = refl; before_byte = λ k. (omega arith, e); at_end = λ k. absurd (cc) }
       on (Some x) e h =
           let s = stop next x xs in
           let rest = h x in
@@ -69,31 +77,9 @@ module _ {A : Type 0} (next : A → ℕ → Option A) where
             at_end = λ k. omega (arith, rest.at_end k);
           }
 
-  -- A loop over a text: `whole` is the search from the start, which has come to place i with the value a.
-  module _ (xs : List ℕ) (whole : Stop A) (i : ℕ) (a : A) (so_far : whole ≡ shifted i (stop next a (drop i xs))) where
-    pub stops_here : i < length xs → next a (get_or xs i 0) ≡ None → record { passed = i; at = a; stopped = true } ≡ whole
-    stops_here h e =
-        sym (so_far ∙ ap (λ l. shifted i (stop next a l)) (drop_more xs i 0 h) ∙ ap (λ o. shifted i (stop_or a o (λ x. stop next x (drop (i + 1) xs)))) e ∙ ap (λ n. stop_of n a true) (add-zero i))
-
-    pub goes_on : i < length xs → (x : A) → next a (get_or xs i 0) ≡ Some x → whole ≡ shifted (i + 1) (stop next x (drop (i + 1) xs))
-    goes_on h x e =
-        let s = stop next x (drop (i + 1) xs) in
-        so_far ∙ ap (λ l. shifted i (stop next a l)) (drop_more xs i 0 h) ∙ ap (λ o. shifted i (stop_or a o (λ z. stop next z (drop (i + 1) xs)))) e ∙ ap (λ n. stop_of n s.at s.stopped) (sym (add_assoc i 1 s.passed))
-
-    pub ran_through : i ≡ length xs → record { passed = length xs; at = a; stopped = false } ≡ whole
-    ran_through e =
-        sym (so_far ∙ ap (λ l. shifted i (stop next a l)) (drop_all i xs (omega arith)) ∙ ap (λ n. stop_of n a false) (add-zero i ∙ e))
-
   -- A search that stops in the first text has stopped in both; one that does not goes on behind it.
   pub stops_before : (a : A) (xs ys : List ℕ) (s : Stop A) → s ≡ stop next a xs → s.stopped ≡ true → s ≡ stop next a (xs ++ ys)
-  stops_before a xs ys s e stopped =
-      let first = stop next a xs in
-      let halts : first.stopped ≡ true = sym (ap (λ z. z.stopped) e) ∙ stopped in
-      e ∙ sym (stop_append a xs ys ∙ cond-true first.stopped first (shifted first.passed (stop next first.at ys)) halts)
+  stops_before a xs ys s e stopped = after_stopped s (stop next a xs) (λ x. stop next x ys) e stopped ∙ sym (stop_append a xs ys)
 
   pub goes_behind : (a : A) (xs ys : List ℕ) (s : Stop A) → s ≡ stop next a xs → s.stopped ≡ false → shifted s.passed (stop next s.at ys) ≡ stop next a (xs ++ ys)
-  goes_behind a xs ys s e running =
-      let first = stop next a xs in
-      let runs : first.stopped ≡ false = sym (ap (λ z. z.stopped) e) ∙ running in
-      ap (λ z. shifted z.passed (stop next z.at ys)) e
-      ∙ sym (stop_append a xs ys ∙ cond-false first.stopped first (shifted first.passed (stop next first.at ys)) runs)
+  goes_behind a xs ys s e running = after_running s (stop next a xs) (λ x. stop next x ys) e running ∙ sym (stop_append a xs ys)

@@ -16,9 +16,6 @@ pub record Highest (passes : ℕ → Bool) (bound x : ℕ) : Type 0 where
   pub right : passes x ≡ true
   pub last : (q : ℕ) → x < q → q < bound → passes q ≡ false
 
-some_none : {x : ℕ} → Some x ≡ None → ⊥
-some_none {x} e = let z : ◌≡◌ {A = ℕ} 0 1 = cc in omega arith
-
 module _ (passes : ℕ → Bool) where
   pub least_is : (count from x : ℕ) → Lowest passes from (from + count) x → least passes from count ≡ Some x
   least_is zero from x h = absurd (omega (arith, h.behind, h.within))
@@ -31,13 +28,8 @@ module _ (passes : ℕ → Bool) where
       ∙ least_is count (suc from) x (record { behind = omega arith; within = omega (arith, h.within); right = h.right; first = λ q k l. h.first q (omega arith) l }))
       (cases_eq from x)
 
-  pub least_none : (count from : ℕ) → ((q : ℕ) → from ≤ q → q < from + count → passes q ≡ false) → least passes from count ≡ None
-  least_none zero from h = refl
-  least_none (suc count) from h =
-      cond-false (passes from) (Some from) (least passes (suc from) count) (h from (omega arith) (omega arith)) ∙ least_none count (suc from) (λ q k l. h q (omega arith) (omega arith))
-
   pub least_found : (count from x : ℕ) → least passes from count ≡ Some x → Lowest passes from (from + count) x
-  least_found zero from x e = absurd (some_none (sym e))
+  least_found zero from x e = absurd (cc)
   least_found (suc count) from x e =
       ⊎_elim
       (λ t.
@@ -57,7 +49,7 @@ module _ (passes : ℕ → Bool) where
   least_missed zero from e q k l = absurd (omega arith)
   least_missed (suc count) from e q k l =
       ⊎_elim
-      (λ t. absurd (some_none (sym (cond-true (passes from) (Some from) (least passes (suc from) count) t) ∙ e)))
+      (λ t. absurd (cc (sym (cond-true (passes from) (Some from) (least passes (suc from) count) t) ∙ e)))
       (λ f.
       let rest = sym (cond-false (passes from) (Some from) (least passes (suc from) count) f) ∙ e in
       ⊎_elim (λ s. ap passes (sym s) ∙ f) (λ ne. least_missed count (suc from) rest q (omega (arith, ne)) (omega arith)) (cases_eq from q))
@@ -74,12 +66,8 @@ module _ (passes : ℕ → Bool) where
       ∙ greatest_is bound x (record { below = under; right = h.right; last = λ q k l. h.last q k (omega arith) }))
       (cases_eq bound x)
 
-  pub greatest_none : (bound : ℕ) → ((q : ℕ) → q < bound → passes q ≡ false) → greatest passes bound ≡ None
-  greatest_none zero h = refl
-  greatest_none (suc bound) h = cond-false (passes bound) (Some bound) (greatest passes bound) (h bound (omega arith)) ∙ greatest_none bound (λ q k. h q (omega arith))
-
   pub greatest_found : (bound x : ℕ) → greatest passes bound ≡ Some x → Highest passes bound x
-  greatest_found zero x e = absurd (some_none (sym e))
+  greatest_found zero x e = absurd (cc)
   greatest_found (suc bound) x e =
       ⊎_elim
       (λ t.
@@ -98,7 +86,7 @@ module _ (passes : ℕ → Bool) where
   greatest_missed zero e q l = absurd (omega arith)
   greatest_missed (suc bound) e q l =
       ⊎_elim
-      (λ t. absurd (some_none (sym (cond-true (passes bound) (Some bound) (greatest passes bound) t) ∙ e)))
+      (λ t. absurd (cc (sym (cond-true (passes bound) (Some bound) (greatest passes bound) t) ∙ e)))
       (λ f.
       let rest = sym (cond-false (passes bound) (Some bound) (greatest passes bound) f) ∙ e in
       ⊎_elim (λ s. ap passes (sym s) ∙ f) (λ ne. greatest_missed bound rest q (omega (arith, ne))) (cases_eq bound q))

@@ -12,26 +12,8 @@ use Rattle.questions.specs.declared.subtree.Subtree.{Subtree}
 use Rattle.questions.specs.declared.subtree.Parts.{Parts}
 use Rattle.questions.specs.Parted.{Apart}
 use Rattle.questions.specs.Under.{text_under, KeptUnder}
-use Rattle.questions.proofs.Cutting.{text_parts}
 use Rattle.seek.proofs.Found.{Found}
-
--- A place behind the end of a list is as good as the end.
-pub take_capped : (n k : ℕ) (xs : List ℕ) → k ≡ min n (length xs) → take k xs ≡ take n xs
-take_capped n k xs e =
-    ⊎_elim (λ h. let same : k ≡ n = omega arith in ap (λ j. take j xs) same) (λ h. take_all k xs (omega arith) ∙ sym (take_all n xs h)) (cases_lt n (length xs))
-
--- The text of a subtree up to a place: on the left, in its own chunk, on the right.
-pub parts_before : {R : Type 0} {s : Subtree R} {p : Parts R} → Apart s p → (place inside beyond : ℕ) → inside ≡ place - length (text_under p.left) → beyond ≡ inside - length p.chunk.now →
-    take place (text_under s) ≡ take place (text_under p.left) ++ (take inside p.chunk.now ++ take beyond (text_under p.right))
-parts_before {s} {p} apart place inside beyond inside-is beyond-is =
-    let xs = text_under p.left in
-    let cs = p.chunk.now in
-    let ys = text_under p.right in
-    ap (take place) (text_parts apart)
-    ∙ take_over place xs (cs ++ ys)
-    ∙ ap (λ k. take place xs ++ take k (cs ++ ys)) (sym inside-is)
-    ∙ ap (λ l. take place xs ++ l) (take_over inside cs ys)
-    ∙ ap (λ k. take place xs ++ (take inside cs ++ take k ys)) (sym beyond-is)
+use Rattle.seek.proofs.Parting.{parts_cut}
 
 module _ {F A : Type 0} (fore : F → ℕ → F) (back : F → ℕ → A → Option A) where
   -- The forward states before the parts, from those behind the whole of what lies before them.
@@ -85,7 +67,7 @@ module _ {R F A : Type 0} (fore : F → ℕ → F) (back : F → ℕ → A → O
   ys = take beyond (text_under p.right)
 
   whole : {z : Stop A} → Behind fore back (KeptUnder s μ) f (xs ++ (cs ++ ys)) a z → Behind fore back (KeptUnder s μ) f (take place (text_under s)) a z
-  whole {z} = subst (λ l. Behind fore back (KeptUnder s μ) f l a z) (sym (parts_before apart place inside beyond inside-is beyond-is))
+  whole {z} = subst (λ l. Behind fore back (KeptUnder s μ) f l a z) (sym (parts_cut take take_over apart place inside beyond inside-is beyond-is))
 
   before_own : KeptUnder s μ → inner ≡ forwards fore f (text_under p.left)
   before_own k = inner-is (apart.left_keeps μ k)
@@ -105,7 +87,7 @@ module _ {R F A : Type 0} (fore : F → ℕ → F) (back : F → ℕ → A → O
   module _ (running : rest.stopped ≡ false) (own : Stop A) (here : Behind fore back (p.reading.now ≡ reading μ p.chunk.now) inner cs rest.at own) where
     -- All that is passed lies in the text.
     pub own_fits : rest.passed + own.passed ≤ length (take place (text_under s))
-    own_fits = omega (arith, right.within, here.within, ap length (parts_before apart place inside beyond inside-is beyond-is), length-append xs (cs ++ ys), length-append cs ys)
+    own_fits = omega (arith, right.within, here.within, ap length (parts_cut take take_over apart place inside beyond inside-is beyond-is), length-append xs (cs ++ ys), length-append cs ys)
 
     module _ (both : Stop A) (both-is : both ≡ shifted rest.passed own) where
       so_far : Behind fore back (KeptUnder s μ) (forwards fore f xs) (cs ++ ys) a both

@@ -11,27 +11,8 @@ use Rattle.questions.specs.declared.subtree.Subtree.{Subtree}
 use Rattle.questions.specs.declared.subtree.Parts.{Parts}
 use Rattle.questions.specs.Parted.{Apart}
 use Rattle.questions.specs.Under.{text_under, KeptUnder}
-use Rattle.questions.proofs.Cutting.{text_parts}
 use Rattle.seek.proofs.Found.{Found}
-
--- A place behind the end of a list is as good as the end.
-pub drop_capped : (n k : ℕ) (xs : List ℕ) → k ≡ min n (length xs) → take (length xs - k) (drop k xs) ≡ drop n xs
-drop_capped n k xs e =
-    take_rest xs k ∙ ⊎_elim (λ h. let same : k ≡ n = omega arith in ap (λ j. drop j xs) same) (λ h. drop_all k xs (omega arith) ∙ sym (drop_all n xs h)) (cases_lt n (length xs))
-
--- The text of a subtree from a place on: on the left, in its own chunk, on the right.
-pub parts_from : {R : Type 0} {s : Subtree R} {p : Parts R} → Apart s p → (place inside beyond : ℕ) → inside ≡ place - length (text_under p.left) → beyond ≡ inside - length p.chunk.now →
-    drop place (text_under s) ≡ (drop place (text_under p.left) ++ drop inside p.chunk.now) ++ drop beyond (text_under p.right)
-parts_from {s} {p} apart place inside beyond inside-is beyond-is =
-    let xs = text_under p.left in
-    let cs = p.chunk.now in
-    let ys = text_under p.right in
-    ap (drop place) (text_parts apart)
-    ∙ drop_over place xs (cs ++ ys)
-    ∙ ap (λ k. drop place xs ++ drop k (cs ++ ys)) (sym inside-is)
-    ∙ ap (λ l. drop place xs ++ l) (drop_over inside cs ys)
-    ∙ ap (λ k. drop place xs ++ (drop inside cs ++ drop k ys)) (sym beyond-is)
-    ∙ sym (append_assoc (drop place xs) (drop inside cs) (drop beyond ys))
+use Rattle.seek.proofs.Parting.{parts_cut}
 
 module _ {A : Type 0} (next : A → ℕ → Option A) (K : Type 0) where
   abbrev pub Ahead : A → List ℕ → Stop A → Type 0
@@ -64,7 +45,7 @@ module _ {R A : Type 0} (next : A → ℕ → Option A) (μ : Measure R) (at : A
   ys = drop beyond (text_under p.right)
 
   whole : {z : Stop A} → Ahead next (KeptUnder s μ) at ((xs ++ cs) ++ ys) z → Ahead next (KeptUnder s μ) at (drop place (text_under s)) z
-  whole {z} = subst (λ l. Ahead next (KeptUnder s μ) at l z) (sym (parts_from apart place inside beyond inside-is beyond-is))
+  whole {z} = subst (λ l. Ahead next (KeptUnder s μ) at l z) (append_assoc xs cs ys ∙ sym (parts_cut drop drop_over apart place inside beyond inside-is beyond-is))
 
   on-left : Ahead next (KeptUnder s μ) at xs first
   on-left = record { within = left.within; finds = λ k. left.finds (apart.left_keeps μ k) }

@@ -1,3 +1,4 @@
 pub mod Found
+pub mod Parting
 pub mod Descent
 pub mod Ascent

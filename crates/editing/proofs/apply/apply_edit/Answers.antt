@@ -1,49 +1,19 @@
 use Rattle.std.proofs.Common.{◌+◌, ◌-◌, length, sym, ap, ◌∙◌, arith}
-use Rattle.std.proofs.lemmas.List.{length-drop}
 use Rattle.automaton.specs.Walk.{walk}
 use Rattle.editing.specs.Content.{text_in}
 use Rattle.editing.proofs.Planning.{answered_ok}
-use Rattle.editing.proofs.Applying.{forward, inside, few_bytes, text_after, text_long, applied, end_told}
+use Rattle.editing.proofs.Applying.{forward, inside, text_after, end_small, applied, end_told}
 use Rattle.editing.proofs.apply.apply_edit.Goals as goal
-
-pub replace_run-requires : goal.replace_run-requires
-replace_run-requires g c =
-    let told = c.in_ok-run.ensures in
-    let ok = answered_ok _ _ _ (sym told.is) in
-    record { allowed = ok.0; is = sym ok.1; short = told.short }
-
-pub overflow_add-behind : goal.overflow_add-behind
-overflow_add-behind g c =
-    let told = c.in_ok-run.ensures in
-    let ok = (answered_ok _ _ _ (sym told.is)).0 in
-    let T = c.args.tree.now in
-    let new = c.args.bytes.now in
-    omega (arith, told.few, forward T c.args.from c.args.to new ok, inside T c.args.from c.args.to new ok, few_bytes T c.args.from c.args.to new ok)
 
 pub overflow_cast-change-2 : goal.overflow_cast-change-2
 overflow_cast-change-2 g c =
     let told = c.in_ok-run.ensures in
-    let ok = (answered_ok _ _ _ (sym told.is)).0 in
-    let T = c.args.tree.now in
-    let new = c.args.bytes.now in
-    let made = c.replace_run.ensures in
-    let after = c.replace_run.new.tree in
-    let long = text_long T c.args.from c.args.to new ok after made.chunks made.usable made.lent in
-    omega (arith, told.few, forward T c.args.from c.args.to new ok, inside T c.args.from c.args.to new ok, few_bytes T c.args.from c.args.to new ok, long, length-drop (c.args.from + length new) (text_in after), c.apart_from.ensures.within)
+    omega (arith, end_small c.args.tree.now c.args.from c.args.to c.args.bytes.now (answered_ok _ _ _ (sym told.is)).0 c.replace_run.new.tree c.replace_run.ensures.chunks told.few c.apart_from.result c.apart_from.ensures.within)
 
 pub overflow_add-change : goal.overflow_add-change
 overflow_add-change g c =
     let told = c.in_ok-run.ensures in
-    let ok = (answered_ok _ _ _ (sym told.is)).0 in
-    let T = c.args.tree.now in
-    let new = c.args.bytes.now in
-    let made = c.replace_run.ensures in
-    let after = c.replace_run.new.tree in
-    let long = text_long T c.args.from c.args.to new ok after made.chunks made.usable made.lent in
-    omega (arith, told.few, forward T c.args.from c.args.to new ok, inside T c.args.from c.args.to new ok, few_bytes T c.args.from c.args.to new ok, long, length-drop (c.args.from + length new) (text_in after), c.apart_from.ensures.within)
-
-pub returns-clause-decides : goal.returns-clause-decides
-returns-clause-decides g c = sym (answered_ok _ _ _ (sym c.in_ok-run.ensures.is)).0
+    omega (arith, end_small c.args.tree.now c.args.from c.args.to c.args.bytes.now (answered_ok _ _ _ (sym told.is)).0 c.replace_run.new.tree c.replace_run.ensures.chunks told.few c.apart_from.result c.apart_from.ensures.within)
 
 pub returns-clause-applied : goal.returns-clause-applied
 returns-clause-applied g c =
@@ -62,5 +32,5 @@ returns-clause-ends g c kept =
     let made = c.replace_run.ensures in
     let after = c.replace_run.new.tree in
     let end = end_told a (text_in T) from to new (text_in after) c.state_before.result c.walk.result c.apart_from.result (forward T from to new ok) (inside T from to new ok)
-    (text_after T from to new ok after made.chunks made.usable made.lent) (c.state_before.ensures kept) (c.walk.ensures ∙ ap (λ s. walk a s new) (c.state_before-2.ensures kept)) (c.apart_from.ensures.meets (made.keeps kept)) in
+    (text_after T from to new ok after made.chunks) (c.state_before.ensures kept) (c.walk.ensures ∙ ap (λ s. walk a s new) (c.state_before-2.ensures kept)) (c.apart_from.ensures.meets (made.keeps kept)) in
     λ z. record { place = from; removed = to - from; inserted = length new; end = end z }

@@ -1,14 +1,14 @@
 use Rattle.std.proofs.Common.{◌≡◌, ◌+◌, ◌-◌, ◌≤◌, ◌++◌, length, take, drop, sym, refl, ap, ◌∙◌, arith}
 use borrow.Rule.Slice.PartMut.{put_mid, same_len_mid}
 use Rattle.std.specs.List.{between}
+use Rattle.std.proofs.lemmas.List.Edits.{length-between}
 use Rattle.std.proofs.lemmas.List.{take_rest, length-append, length-drop, length-take-le}
-use Rattle.model.proofs.Editing.{length_between}
 use Rattle.editing.specs.Content.{text_in}
 use Rattle.editing.proofs.Applying.{three_parts, copied_front}
 use Rattle.editing.proofs.apply.fill_middle.Goals as goal
 
-pub returns : goal.returns
-returns g c =
+pub returns-clause-is : goal.returns-clause-is
+returns-clause-is g c =
     let T = c.args.tree.now in
     let text = text_in T in
     let run = c.args.run in
@@ -22,8 +22,8 @@ returns g c =
     let m = length new in
     let inner : from ≤ length text = omega (arith, c.requires.forward, c.requires.behind, c.requires.within) in
     let room : h + (m + (run.end - to)) ≤ length out = omega (arith, c.requires.room) in
-    let long-head : length head ≡ h = length_between run.start from text inner in
-    let long-tail : length tail ≡ run.end - to = length_between to run.end text c.requires.within in
+    let long-head : length head ≡ h = length-between text run.start from inner in
+    let long-tail : length tail ≡ run.end - to = length-between text to run.end c.requires.within in
     let one = c.copy.new.out in
     let first : one ≡ head ++ drop h out = copied_front T run.start from out one _ c.copy.ensures.done c.copy.ensures.copied c.requires.before inner (omega arith) in
     let gap : h + m - h ≡ m = omega arith in
@@ -36,7 +36,4 @@ returns g c =
     let third : part ≡ tail ++ drop (length tail) (drop (h + m) two) =
     copied_front T to run.end (between (h + m) (length two) two) part _ c.copy-2.ensures.done c.copy-2.ensures.copied c.requires.behind c.requires.within (omega (arith, ap length rest, length-drop (h + m) two))
     ∙ ap (λ l. tail ++ drop (run.end - to) l) rest ∙ ap (λ n. tail ++ drop n (drop (h + m) two)) (sym long-tail) in
-    record {
-      long = omega arith;
-      is = ap (λ n. take (h + m + n) (put_mid (h + m) (length two - (h + m)) two part)) (sym long-tail) ∙ three_parts out head new tail one h m long-head refl (omega arith) first two part second third _ _ refl;
-    }
+    ap (λ n. take (h + m + n) (put_mid (h + m) (length two - (h + m)) two part)) (sym long-tail) ∙ three_parts out head new tail one h m long-head refl (omega arith) first two part second third _ _ refl

@@ -14,31 +14,18 @@ overflow_add-count g c =
 
 pub loop-at-preserved : goal.loop-at-preserved
 loop-at-preserved g c =
-    let text = text_in c.args.tree.now in
-    let at = c.loop-at.at in
-    let end = c.min-end.result in
-    let next = c.min-next.result in
-    let before : min at end ≡ at = omega arith in
-    let behind : next ≡ min (at + 64) end = omega (arith, c.min-next.ensures) in
-    let more = block_counted c.args.tree.now c.args.from at next c.loop-at.block c.copy.new.out _ c.loop-at.count c.line_ends_of.result c.copy.ensures.done c.copy.ensures.copied c.loop-at.invariant.forward (omega arith)
-    (omega (arith, c.bytes.ensures.is, c.min-end.ensures)) (omega (arith, c.min-next.array_long)) (c.loop-at.invariant.counted ∙ ap (λ n. line_ends (between c.args.from n text)) before) c.line_ends_of.ensures in
-    record { forward = omega (arith, c.loop-at.invariant.forward); counted = more ∙ ap (λ n. line_ends (between c.args.from n text)) behind }
+    let behind : c.min-next.result ≡ min (c.loop-at.at + 64) c.min-end.result = omega (arith, c.min-next.ensures) in
+    record {
+      forward = omega arith;
+      counted = block_counted c.args.tree.now c.args.from c.loop-at.at c.min-end.result c.min-next.result c.loop-at.block c.copy.new.out _ c.loop-at.count c.line_ends_of.result c.copy.ensures.done c.copy.ensures.copied c.loop-at.invariant.forward (omega arith) (omega (arith, c.bytes.ensures.is, c.min-end.ensures)) (omega (arith, c.min-next.ensures)) (omega (arith, c.min-next.array_long)) c.loop-at.invariant.counted c.line_ends_of.ensures
+          ∙ ap (λ n. line_ends (between c.args.from n (text_in c.args.tree.now))) behind;
+    }
 
 -- Behind the last block, and where there is none.
 pub returns-2 : goal.returns-2
 returns-2 g c =
     let text = text_in c.args.tree.now in
-    let at = c.loop-at.at in
-    let end = c.min-end.result in
-    let next = c.min-next.result in
-    let before : min at end ≡ at = omega arith in
-    let behind : next ≡ min c.args.to (length text) = omega (arith, c.min-next.ensures, c.min-end.ensures, c.bytes.ensures.is) in
-    let more = block_counted c.args.tree.now c.args.from at next c.loop-at.block c.copy.new.out _ c.loop-at.count c.line_ends_of.result c.copy.ensures.done c.copy.ensures.copied c.loop-at.invariant.forward (omega arith)
-    (omega (arith, c.bytes.ensures.is, c.min-end.ensures)) (omega (arith, c.min-next.array_long)) (c.loop-at.invariant.counted ∙ ap (λ n. line_ends (between c.args.from n text)) before) c.line_ends_of.ensures in
-    more ∙ ap (λ n. line_ends (between c.args.from n text)) behind ∙ to_end text c.args.from c.args.to
-
-pub returns : goal.returns
-returns g c =
-    let text = text_in c.args.tree.now in
-    let end : min c.loop-at.at c.min-end.result ≡ min c.args.to (length text) = omega (arith, c.loop-at-test.false, c.min-end.ensures, c.bytes.ensures.is) in
-    c.loop-at.invariant.counted ∙ ap (λ n. line_ends (between c.args.from n text)) end ∙ to_end text c.args.from c.args.to
+    let behind : c.min-next.result ≡ min c.args.to (length text) = omega (arith, c.min-next.ensures, c.min-end.ensures, c.bytes.ensures.is) in
+    block_counted c.args.tree.now c.args.from c.loop-at.at c.min-end.result c.min-next.result c.loop-at.block c.copy.new.out _ c.loop-at.count c.line_ends_of.result c.copy.ensures.done c.copy.ensures.copied c.loop-at.invariant.forward (omega arith) (omega (arith, c.bytes.ensures.is, c.min-end.ensures)) (omega (arith, c.min-next.ensures)) (omega (arith, c.min-next.array_long)) c.loop-at.invariant.counted c.line_ends_of.ensures
+    ∙ ap (λ n. line_ends (between c.args.from n text)) behind
+    ∙ to_end text c.args.from c.args.to

@@ -4,50 +4,31 @@ use Rattle.std.proofs.Common.{◌≡◌, ◌+◌, ◌-◌, ◌≤◌, length, No
 use Rattle.model.specs.Edit.{edited_chunks, affected, middle_length}
 use Rattle.model.specs.declared.refusal.Refusal.TheVariants.{TooManyChunks}
 use Rattle.model.specs.Calls.{answered}
-use Rattle.model.proofs.Runs.{Covers, covers_affected, short_middle}
+use Rattle.model.proofs.Runs.{short_middle}
 use Rattle.tree.specs.Public.{chunks_now}
 use Rattle.editing.specs.Content.{model_in}
 use Rattle.editing.proofs.Planning.{chunks_refused, allowed, count_told}
 use Rattle.editing.proofs.plan.plan.Goals as goal
 
-pub overflow_sub-kept : goal.overflow_sub-kept
-overflow_sub-kept g c =
-    let chunks = chunks_now c.args.tree.now in
-    let covers = subst (Covers chunks c.args.from c.args.to) (sym c.affected-run.ensures) (covers_affected chunks c.args.from c.args.to (omega arith) (omega arith) (length c.args.bytes.now)) in
-    covers.ordered
-
-pub overflow_sub-kept-2 : goal.overflow_sub-kept-2
-overflow_sub-kept-2 g c =
-    let chunks = chunks_now c.args.tree.now in
-    let covers = subst (Covers chunks c.args.from c.args.to) (sym c.affected-run.ensures) (covers_affected chunks c.args.from c.args.to (omega arith) (omega arith) (length c.args.bytes.now)) in
-    let known = covers.known in
-    omega arith
-
-pub middle_length_of-requires : goal.middle_length_of-requires
-middle_length_of-requires g c =
-    let chunks = chunks_now c.args.tree.now in
-    let covers = subst (Covers chunks c.args.from c.args.to) (sym c.affected-run.ensures) (covers_affected chunks c.args.from c.args.to (omega arith) (omega arith) (length c.args.bytes.now)) in
-    record { before = covers.before; behind = covers.behind; few = omega arith }
-
-pub returns-then-chunks-usable : goal.returns-then-chunks-usable
-returns-then-chunks-usable g c =
-    let model = model_in c.args.tree.now None in
+pub returns-then-chunks-usable-clause-is : goal.returns-then-chunks-usable-clause-is
+returns-then-chunks-usable-clause-is g c =
     let chunks = chunks_now c.args.tree.now in
     let new = c.args.bytes.now in
     let count : c.chunks.result - (c.affected-run.result.last - c.affected-run.result.first) + c.div_ceil.result ≡ length (edited_chunks chunks c.args.from c.args.to new) = count_told chunks c.args.from c.args.to new c.affected-run.result c.affected-run.ensures (omega arith) (omega arith) _ c.middle_length_of.result _ c.chunks.ensures.is c.middle_length_of.ensures (omega (arith, c.div_ceil.ensures)) in
-    let refused = chunks_refused model c.args.from c.args.to new (omega arith) (omega arith) (omega arith) (omega arith) in
-    record { is = ap (λ n. Err (TooManyChunks n)) count ∙ sym (ap (λ o. answered o (affected chunks c.args.from c.args.to (length new))) refused); short = tt; few = tt }
+    let refused = chunks_refused (model_in c.args.tree.now None) c.args.from c.args.to new (omega arith) (omega arith) (omega arith) (omega arith) in
+    ap (λ n. Err (TooManyChunks n)) count ∙ sym (ap (λ o. answered o (affected chunks c.args.from c.args.to (length new))) refused)
 
-pub returns : goal.returns
-returns g c =
-    let model = model_in c.args.tree.now None in
+pub returns-clause-is : goal.returns-clause-is
+returns-clause-is g c =
     let chunks = chunks_now c.args.tree.now in
     let new = c.args.bytes.now in
     let count : c.chunks.result - (c.affected-run.result.last - c.affected-run.result.first) + c.div_ceil.result ≡ length (edited_chunks chunks c.args.from c.args.to new) = count_told chunks c.args.from c.args.to new c.affected-run.result c.affected-run.ensures (omega arith) (omega arith) _ c.middle_length_of.result _ c.chunks.ensures.is c.middle_length_of.ensures (omega (arith, c.div_ceil.ensures)) in
-    let passes = allowed model c.args.from c.args.to new (record { forward = omega arith; inside = omega arith; few_bytes = omega arith; few_chunks = omega arith }) in
+    let passes = allowed (model_in c.args.tree.now None) c.args.from c.args.to new (record { forward = omega arith; inside = omega arith; few_bytes = omega arith; few_chunks = omega arith }) in
+    ap Ok c.affected-run.ensures ∙ sym (ap (λ o. answered o (affected chunks c.args.from c.args.to (length new))) passes)
+
+pub returns-clause-short : goal.returns-clause-short
+returns-clause-short g c =
+    let chunks = chunks_now c.args.tree.now in
+    let new = c.args.bytes.now in
     let short = short_middle chunks c.args.from c.args.to (omega arith) (omega arith) (recursion_from_All Chunk _ c.chunks.ensures.chunked) (length new) in
-    record {
-      is = ap Ok c.affected-run.ensures ∙ sym (ap (λ o. answered o (affected chunks c.args.from c.args.to (length new))) passes);
-      short = subst (λ r. middle_length r c.args.from c.args.to (length new) ≤ 1152) (sym c.affected-run.ensures) (omega (arith, short));
-      few = omega arith;
-    }
+    subst (λ r. middle_length r c.args.from c.args.to (length new) ≤ 1152) (sym c.affected-run.ensures) (omega (arith, short))

@@ -4,16 +4,10 @@ use Rattle.editing.proofs.Planning.{answered_ok}
 use Rattle.editing.proofs.Showing.{range_passed, coloured_front}
 use Rattle.editing.proofs.screen.copy_colours.Goals as goal
 
-pub returns : goal.returns
-returns g c =
-    let a = g.G.Grammar.meaning c.args.meter.now.first.grammar in
+pub returns-clause-written : goal.returns-clause-written
+returns-clause-written g c kept =
     let T = c.args.tree.now in
     let out = c.args.out.now in
     let told = c.in_ok-copy_text.ensures in
-    let ok = answered_ok _ tt _ (sym told.answer) in
-    let range = range_passed (model_in T None) c.args.from c.args.to (length out) ok.0 in
-    record {
-      answer = told.answer;
-      written = λ kept. coloured_front a (text_in T) out c.copy_text.new.out c.colour_cells.new.cells c.args.from c.args.to c.state_before-state.result range.0 range.1 (c.state_before-state.ensures kept) told.written c.colour_cells.ensures.coloured;
-      same = tt;
-    }
+    let range = range_passed (model_in T None) c.args.from c.args.to (length out) (answered_ok _ tt _ (sym told.answer)).0 in
+    coloured_front (g.G.Grammar.meaning c.args.meter.now.first.grammar) (text_in T) out c.copy_text.new.out c.colour_cells.new.cells c.args.from c.args.to c.state_before-state.result range.0 range.1 (c.state_before-state.ensures kept) told.written c.colour_cells.ensures.coloured

@@ -1,41 +1,31 @@
 use Rattle.std.proofs.Common.{◌≡◌, ◌-◌, ◌≤◌, true, length, drop, None, sym, ap, ◌∙◌, arith}
 use lib.Seq.{paste}
 use Rattle.std.specs.List.{between}
+use Rattle.std.proofs.lemmas.List.Edits.{length-between}
 use Rattle.std.proofs.lemmas.Result.{IfOk-at_ok}
 use Rattle.automaton.specs.Walk.{colours}
 use Rattle.automaton.proofs.Walk.{colours_length}
 use Rattle.model.specs.Calls.{answered, fits}
 use Rattle.model.specs.Paint.{length_before}
-use Rattle.model.proofs.Editing.{length_between}
 use Rattle.editing.specs.Content.{text_in, model_in}
-use Rattle.editing.proofs.Showing.{range_passes, front_fills, painted_is, fits_parts, paint_passes}
+use Rattle.editing.proofs.Showing.{range_passes, front_fills, painted_is, fits_parts}
 use Rattle.editing.proofs.screen.paint_change.Goals as goal
 
-pub returns : goal.returns
-returns g c =
+pub returns-clause-painted : goal.returns-clause-painted
+returns-clause-painted g c kept =
     let a = g.G.Grammar.meaning c.args.meter.now.first.grammar in
-    let T = c.args.tree.now in
-    let text = text_in T in
+    let text = text_in c.args.tree.now in
     let change = c.args.change in
     let screen = c.args.screen.now in
     let all : c.bytes-bytes.result ≡ length text = c.bytes-bytes.ensures.is in
-    let fit : fits change (length text) ≡ true = ap (fits change) (sym all) ∙ sym c.fits.ensures ∙ c.if-not-fits.false in
-    let parts = fits_parts change (length text) fit in
-    let low = parts.0 in
+    let parts = fits_parts change (length text) (ap (fits change) (sym all) ∙ sym c.fits.ensures ∙ c.if-not-fits.false) in
     let high = parts.1 in
     let moved = c.copy_within.new.self in
-    let wide : length text ≤ length screen = omega arith in
-    let old-wide : length_before change (length text) ≤ length screen = omega arith in
-    record {
-      answer = sym (ap (λ o. answered o tt) (paint_passes (model_in T None) change (length screen) fit wide old-wide));
-      painted = λ kept.
-          let room : length (between change.place change.end moved) ≡ change.end - change.place = length_between change.place change.end moved (omega (arith, c.copy_within.ensures.len)) in
-          let passes = range_passes (model_in T None) change.place change.end (length (between change.place change.end moved)) (omega arith) high (omega arith) in
-          let ok = c.copy_colours.ensures.answer ∙ ap (λ o. answered o tt) passes in
-          let written = IfOk-at_ok _ ok c.copy_colours.ensures.written kept in
-          let long : length (between change.place change.end (colours a text)) ≡ length (between change.place change.end moved) = length_between change.place change.end (colours a text) (omega (arith, colours_length a 0 text)) ∙ sym room in
-          painted_is a text screen moved c.copy_colours.new.out change (omega arith) high wide old-wide (omega arith)
-          (c.copy_within.ensures.after ∙ ap (λ n. paste screen change.end (drop (length_before change change.end) screen) (length_before change n - length_before change change.end)) all)
-          (written ∙ front_fills _ _ long);
-      same = tt;
-    }
+    let room : length (between change.place change.end moved) ≡ change.end - change.place = length-between moved change.place change.end (omega (arith, c.copy_within.ensures.len)) in
+    let passes = range_passes (model_in c.args.tree.now None) change.place change.end (length (between change.place change.end moved)) (omega arith) high (omega arith) in
+    let ok = c.copy_colours.ensures.answer ∙ ap (λ o. answered o tt) passes in
+    let written = IfOk-at_ok _ ok c.copy_colours.ensures.written kept in
+    let long : length (between change.place change.end (colours a text)) ≡ length (between change.place change.end moved) = length-between (colours a text) change.place change.end (omega (arith, colours_length a 0 text)) ∙ sym room in
+    painted_is a text screen moved c.copy_colours.new.out change (omega arith) high (omega arith) (omega arith) (omega arith)
+    (c.copy_within.ensures.after ∙ ap (λ n. paste screen change.end (drop (length_before change change.end) screen) (length_before change n - length_before change change.end)) all)
+    (written ∙ front_fills _ _ long)
