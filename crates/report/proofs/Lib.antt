@@ -1,4 +1,3 @@
 pub mod Palette
-pub mod Whole
 pub mod Pieces
 pub mod Summarized
