@@ -1,3 +1,4 @@
 pub mod Palette
+pub mod Piles
 pub mod Pieces
 pub mod Summarized
