@@ -75,7 +75,7 @@ quoted_reads_back bytes small =
 
 -- A blank is no digit.
 not_blank : (d n : ℕ) → digit_value d ≡ Some n → is_blank d ≡ false
-not_blank d n = at_or_not (λ b. digit_value b ≡ Some n → is_blank b ≡ false) d 0x20 (λ e. (cc)) (λ e₁. at_or_not (λ b. digit_value b ≡ Some n → is_blank b ≡ false) d 0x09 (λ e. (cc)) (λ e₂. at_or_not (λ b. digit_value b ≡ Some n → is_blank b ≡ false) d 0x0D (λ e. (cc)) (λ e₃ e. simp (e₁, e₂, e₃))))
+not_blank d n is = grind (arith, nat_tests)
 
 module _ (digit : ℕ → ℕ) (value : (n : ℕ) → n < 16 → digit_value (digit n) ≡ Some n) where
   pair_read : (b : ℕ) (rest : List ℕ) → b < 256 → bytes_from Pairs (digit (b / 16) ∷ digit (b % 16) ∷ rest) ≡ option_map (read_in_front b) (bytes_from Pairs rest)
