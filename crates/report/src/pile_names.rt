@@ -6,6 +6,7 @@ use crate::pile::{PILES, Pile};
 use std::fmt;
 
 impl Pile {
+    // A text and no Display, since `named` compares it.
     pub fn name(self) -> &'static str
         ensures { result.now ≡ pile_name self }
     {
