@@ -13,4 +13,4 @@ returns g c =
     (λ bytes r b r' f' j k.
     let more = reading_append m lawful bytes (b.now ∷ []) ∙ ap (m.join (reading m bytes)) (lawful.single_alone b.now) in
     search rules)
-    _ _ _ _ (slice_gives c.iter.result) c.empty.ensures c.fold.ensures.ran)
+    _ _ _ _ (slice_gives c.iter.result) (search rules) c.fold.ensures.ran)
