@@ -3,11 +3,10 @@ use Rattle.std.proofs.Common.{ℕ, ◌*◌, ◌<◌, ltb, arith}
 use Rattle.std.proofs.lemmas.Bool.{cond_both, ltb-true, ltb-false}
 use Rattle.std.proofs.lemmas.Bool.Decides.{nat_tests}
 use Rattle.automaton.specs.Automaton.{Automaton, Lawful}
-use Rattle.automaton.specs.Comment.{comment, comment_state, comment_step, comment_class}
-use Rattle.automaton.specs.Layer.{fitted}
+use Rattle.automaton.specs.Comment.{comment, comment_state, comment_step, comment_class, comment_open}
 use Rattle.automaton.specs.declared.layer_state.CommentState.{CommentState}
 use Rattle.automaton.specs.declared.layer_state.CommentState.TheVariants.{Below, Inside}
-use Rattle.automaton.proofs.Lawful.{automaton_lawful, fitted_few, fitted_is}
+use Rattle.automaton.proofs.Lawful.{layer_lawful}
 
 module _ (G : Automaton) (lawful : Lawful G) where
   -- the states that the layer can be in
@@ -27,7 +26,4 @@ module _ (G : Automaton) (lawful : Lawful G) where
   class_small (Inside t) b = grind (arith, nat_tests, lawful.class_below t b)
 
   pub comment_lawful : Lawful (comment G)
-  comment_lawful =
-      automaton_lawful (fitted (2 * G.count)) _ _ _ (fitted_few (2 * G.count))
-      (λ s b h. let e = fitted_is (2 * G.count) s h in rw e (step_fits (comment_state G s) b (state_fits s (rw e at h))))
-      (λ s b. class_small (comment_state G s) b)
+  comment_lawful = layer_lawful (2 * G.count) Fits (comment_state G) (comment_step G) (comment_class G) (comment_open G) state_fits step_fits class_small

@@ -21,3 +21,8 @@ fitted_few k = grind (arith, nat_tests)
 -- A layer that has a state has as many as its formula says.
 pub fitted_is : (k s : ℕ) → s < fitted k → fitted k ≡ k
 fitted_is k s h = grind (arith, nat_tests)
+
+-- A layer whose states fit, as their number says, and whose steps go on fitting is lawful.
+pub layer_lawful : {P : Type 0} (k : ℕ) (Fits : P → Type 0) (state : ℕ → P) (step class : P → ℕ → ℕ) (is_open : P → Bool) → ((s : ℕ) → s < k → Fits (state s)) → ((p : P) (b : ℕ) → Fits p → step p b < k) → ((p : P) (b : ℕ) → class p b < 16) → Lawful (automaton (fitted k) (λ s. step (state s)) (λ s. class (state s)) (λ s. is_open (state s)))
+layer_lawful k Fits state step class is_open fits goes small =
+    automaton_lawful (fitted k) _ _ _ (fitted_few k) (λ s b h. let e = fitted_is k s h in rw e (goes (state s) b (fits s (rw e at h)))) (λ s b. small (state s) b)

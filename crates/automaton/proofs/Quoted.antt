@@ -3,11 +3,10 @@ use Rattle.std.proofs.Common.{ℕ, ◌*◌, ◌<◌, ltb, arith}
 use Rattle.std.proofs.lemmas.Bool.{cond_both, ltb-true, ltb-false}
 use Rattle.std.proofs.lemmas.Bool.Decides.{nat_tests}
 use Rattle.automaton.specs.Automaton.{Automaton, Lawful}
-use Rattle.automaton.specs.Quoted.{quoted, quoted_state, quoted_step, quoted_class}
-use Rattle.automaton.specs.Layer.{fitted}
+use Rattle.automaton.specs.Quoted.{quoted, quoted_state, quoted_step, quoted_class, quoted_open}
 use Rattle.automaton.specs.declared.layer_state.QuotedState.{QuotedState}
 use Rattle.automaton.specs.declared.layer_state.QuotedState.TheVariants.{Below, Inside, Escaped}
-use Rattle.automaton.proofs.Lawful.{automaton_lawful, fitted_few, fitted_is}
+use Rattle.automaton.proofs.Lawful.{layer_lawful}
 
 module _ (G : Automaton) (lawful : Lawful G) where
   -- the states that the layer can be in
@@ -33,7 +32,4 @@ module _ (G : Automaton) (lawful : Lawful G) where
   class_small (Escaped t) b = grind (arith, nat_tests, lawful.class_below t b)
 
   pub quoted_lawful : Lawful (quoted G)
-  quoted_lawful =
-      automaton_lawful (fitted (3 * G.count)) _ _ _ (fitted_few (3 * G.count))
-      (λ s b h. let e = fitted_is (3 * G.count) s h in rw e (step_fits (quoted_state G s) b (state_fits s (rw e at h))))
-      (λ s b. class_small (quoted_state G s) b)
+  quoted_lawful = layer_lawful (3 * G.count) Fits (quoted_state G) (quoted_step G) (quoted_class G) (quoted_open G) state_fits step_fits class_small

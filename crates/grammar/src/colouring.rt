@@ -10,11 +10,9 @@ use crate::interface::Grammar;
 pub fn walk<G: Grammar>(grammar: &G, state: u8, bytes: &[u8]) -> u8
     ensures { result ≡ walk_from (G.meaning grammar.now) state bytes.now }
 {
-    let mut behind = state;
-    for byte in bytes {
-        behind = grammar.step(behind, *byte);
-    }
-    behind
+    bytes
+        .iter()
+        .fold(state, |behind, byte| grammar.step(behind, *byte))
 }
 
 // Colours the bytes, read from `state` on, into the front of `out`, and gives the state behind them.

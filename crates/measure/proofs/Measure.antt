@@ -1,6 +1,5 @@
 -- What follows from the laws of a meter, and one way to show them.
-use Rattle.std.proofs.Common.{◌≡◌, ℕ, ◌+◌, ◌<◌, List, [], ◌∷◌, ◌++◌, length, get_or, take, sym, ap, ◌∙◌, append_assoc, append-nil}
-use Rattle.std.proofs.lemmas.List.{take_more}
+use Rattle.std.proofs.Common.{◌≡◌, ℕ, List, [], ◌∷◌, ◌++◌, sym, ap, ◌∙◌, append_assoc, append-nil}
 use Rattle.measure.specs.Measure.{Measure, reading, Lawful}
 
 module _ {R : Type 0} (μ : Measure R) (lawful : Lawful μ) where
@@ -13,11 +12,6 @@ module _ {R : Type 0} (μ : Measure R) (lawful : Lawful μ) where
       ∙ ap (λ r. μ.join r (μ.join (reading μ xs) (reading μ ys))) (sym alone)
       ∙ sym (lawful.associative (b ∷ []) xs ys)
       ∙ ap (λ r. μ.join (μ.join r (reading μ xs)) (reading μ ys)) alone
-
-  -- one byte more
-  pub reading_more : (xs : List ℕ) (i : ℕ) → i < length xs → reading μ (take (i + 1) xs) ≡ μ.join (reading μ (take i xs)) (μ.single (get_or xs i 0))
-  reading_more xs i h =
-      ap (reading μ) (take_more xs i 0 h) ∙ reading_append (take i xs) (get_or xs i 0 ∷ []) ∙ ap (μ.join (reading μ (take i xs))) (lawful.single_alone (get_or xs i 0))
 
 -- Where the readings are known in other words, `whole`, and those words can be joined, the laws hold
 -- and the reading of every text is `whole` of it.

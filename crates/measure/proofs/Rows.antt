@@ -1,10 +1,9 @@
 -- A table of 64 entries, and how it is filled from the first state on.
-use Rattle.std.proofs.Common.{◌≡◌, ℕ, ◌+◌, ◌<◌, cond, ltb, List, length, get_or, set, sym, ap, ◌∙◌, ⊎_elim, arith}
+use Rattle.std.proofs.Common.{◌≡◌, ℕ, ◌<◌, cond, ltb, List, length, get_or, sym, ◌∙◌, arith}
 use Rattle.std.proofs.lemmas.List.FromFn.{length-map-range_with_len, get_or-map-range_with_len, fill_by_all}
-use Rattle.std.proofs.lemmas.List.{length-set, get_or-set_same, get_or-set_other, get_or_default}
-use Rattle.std.proofs.lemmas.Bool.{cases_eq, cond-true, cond-false, lt-ltb, le-ltb}
-use Rattle.std.proofs.lemmas.Bool.Decides.{nat_tests}
-use Rattle.measure.specs.Walk.{rows, still, join_entries, entry_at, onward}
+use Rattle.std.proofs.lemmas.List.{get_or_default}
+use Rattle.std.proofs.lemmas.Bool.{cond-false, le-ltb}
+use Rattle.measure.specs.Walk.{rows, still, entry_at}
 use Rattle.measure.specs.declared.walk_reading.Entry.{Entry}
 
 pub length_rows : (f : ℕ → Entry) → length (rows f) ≡ 64
@@ -31,22 +30,6 @@ module _ (f g : ℕ → Entry) where
   pub filled_none : (xs : List Entry) → length xs ≡ 64 → ((s : ℕ) → s < 64 → get_or xs s (still 0) ≡ g s) → Filled f g 0 xs
   filled_none xs long each = record { long = long; each = λ s h. each s h ∙ sym (cond-false (ltb s 0) (f s) (g s) (le-ltb s 0 (omega arith))) }
 
-  pub filled_more : (n : ℕ) (xs : List Entry) (e : Entry) → n < 64 → e ≡ f n → Filled f g n xs → Filled f g (n + 1) (set xs n e)
-  filled_more n xs e h right so_far = record {
-    long = length-set xs n e ∙ so_far.long;
-    each = λ s k.
-        ⊎_elim (λ here.
-        ap (λ j. get_or (set xs n e) j (still 0)) here
-        ∙ get_or-set_same xs n e (still 0) (omega (arith, so_far.long))
-        ∙ right
-        ∙ sym (ap f here)
-        ∙ sym (cond-true (ltb s (n + 1)) (f s) (g s) (lt-ltb s (n + 1) (omega arith))))
-        (λ other.
-        let same : ltb s n ≡ ltb s (n + 1) = grind (arith, nat_tests) in
-        get_or-set_other xs n s e (still 0) other ∙ so_far.each s k ∙ ap (λ t. cond t (f s) (g s)) same)
-        (cases_eq s n);
-  }
-
   -- Where g is right from n on, the table is done.
   pub filled_all : (n : ℕ) (xs : List Entry) (h : ℕ → Entry) → Filled f g n xs → ((s : ℕ) → s < 64 → cond (ltb s n) (f s) (g s) ≡ h s) → xs ≡ rows h
   filled_all n xs h so_far right = rows_all h xs (still 0) so_far.long (λ s k. so_far.each s k ∙ right s k)
@@ -54,6 +37,3 @@ module _ (f g : ℕ → Entry) where
 -- A read within a table is its entry.
 pub read_entry : (xs : List Entry) (s : ℕ) → length xs ≡ 64 → s < 64 → get_or xs s (still 0) ≡ entry_at xs s
 read_entry xs s long h = get_or_default xs s (still 0) (still s) (omega arith)
-
-pub read_onward : (left right : List Entry) (s : ℕ) → length left ≡ 64 → s < 64 → join_entries (get_or left s (still 0)) (entry_at right (get_or left s (still 0)).end) ≡ onward left right s
-read_onward left right s long h = ap (λ e. join_entries e (entry_at right e.end)) (read_entry left s long h)

@@ -26,10 +26,9 @@ pub trait Meter {
     fn measure(&self, bytes: &[u8]) -> Self::Reading
         ensures { result ≡ reading (scale self.now) bytes.now }
     {
-        let mut sum = self.empty();
-        for byte in bytes {
-            sum = self.join(&sum, &self.single(*byte));
-        }
-        sum
+        bytes.iter().fold(
+            self.empty(),
+            |sum, byte| self.join(&sum, &self.single(*byte)),
+        )
     }
 }

@@ -8,8 +8,5 @@ pub const LONGEST: u32 = 262_144;
 pub fn length_within(left: u32, right: u32) -> Option<u32>
     ensures { result ≡ (if nat_le (left + right) longest then Some (left + right) else None) }
 {
-    match left.checked_add(right) {
-        Some(length) if length <= LONGEST => Some(length),
-        _ => None,
-    }
+    left.checked_add(right).filter(|length| *length <= LONGEST)
 }

@@ -1,5 +1,5 @@
 -- Bytes that are written are read as they were: each byte by itself, and then all.
-use Rattle.std.proofs.Common.{◌≡◌, ◌≢◌, ℕ, ◌+◌, ◌*◌, ◌/◌, ◌%◌, ◌<◌, ◌≤◌, leb, false, List, [], ◌∷◌, ◌++◌, Some, All, ◌&&◌, sym, refl, ap, ◌∙◌, subst, ⊎_elim, append_assoc, arith}
+use Rattle.std.proofs.Common.{◌≡◌, ℕ, ◌+◌, ◌*◌, ◌/◌, ◌%◌, ◌<◌, ◌≤◌, eqb, leb, false, List, [], ◌∷◌, ◌++◌, Some, All, ◌&&◌, sym, refl, ap, ◌∙◌, subst, ⊎_elim, append_assoc, arith}
 use Rattle.std.specs.List.{flat_map, AllByRecursion}
 use Rattle.std.specs.Option.{option_map, option_and_then}
 use Rattle.std.proofs.lemmas.Bool.{cases_eq, cases_lt, ne_eqb, le-leb, lt-leb, and_right}
@@ -20,8 +20,8 @@ pub lower_value : (n : ℕ) → n < 16 → digit_value (lower_digit n) ≡ Some 
 lower_value n h = grind (arith, nat_tests)
 
 -- A byte that equals k or not.
-at_or_not : (P : ℕ → Type 0) (b k : ℕ) → P k → (b ≢ k → P b) → P b
-at_or_not P b k same other = ⊎_elim (λ e. subst P (sym e) same) other (cases_eq b k)
+at_or_not : (P : ℕ → Type 0) (b k : ℕ) → P k → (eqb b k ≡ false → P b) → P b
+at_or_not P b k same other = ⊎_elim (λ e. subst P (sym e) same) (λ e. other (ne_eqb b k e)) (cases_eq b k)
 
 halves : (b : ℕ) → 16 * (b / 16) + b % 16 ≡ b
 halves b = omega arith
@@ -31,25 +31,15 @@ module _ (rest : List ℕ) where
   abbrev Reads : ℕ → Type 0
   Reads b = bytes_from Text (written b ++ rest) ≡ option_map (read_in_front b) (bytes_from Text rest)
 
-  module _ (b : ℕ) (a₁ : b ≢ 0x22) (a₂ : b ≢ 0x5C) (a₃ : b ≢ 0x0A) (a₄ : b ≢ 0x0D) (a₅ : b ≢ 0x09) where
+  module _ (b : ℕ) (e₁ : eqb b 0x22 ≡ false) (e₂ : eqb b 0x5C ≡ false) (e₃ : eqb b 0x0A ≡ false) (e₄ : eqb b 0x0D ≡ false) (e₅ : eqb b 0x09 ≡ false) where
     plain : 0x20 ≤ b → b ≤ 0x7E → Reads b
     plain low high =
-        let e₁ = ne_eqb b 0x22 a₁ in
-        let e₂ = ne_eqb b 0x5C a₂ in
-        let e₃ = ne_eqb b 0x0A a₃ in
-        let e₄ = ne_eqb b 0x0D a₄ in
-        let e₅ = ne_eqb b 0x09 a₅ in
         let l₁ = le-leb 0x20 b low in
         let l₂ = le-leb b 0x7E high in
         simp (e₁, e₂, e₃, e₄, e₅, l₁, l₂)
 
     coded : b < 256 → (leb 0x20 b && leb b 0x7E) ≡ false → Reads b
     coded small none =
-        let e₁ = ne_eqb b 0x22 a₁ in
-        let e₂ = ne_eqb b 0x5C a₂ in
-        let e₃ = ne_eqb b 0x0A a₃ in
-        let e₄ = ne_eqb b 0x0D a₄ in
-        let e₅ = ne_eqb b 0x09 a₅ in
         let high = upper_value (b / 16) (omega arith) in
         let unit = upper_value (b % 16) (omega arith) in
         simp (e₁, e₂, e₃, e₄, e₅, none, high, unit, halves b)
@@ -62,7 +52,7 @@ module _ (rest : List ℕ) where
 
   reads : (b : ℕ) → b < 256 → Reads b
   reads b small =
-      at_or_not Reads b 0x22 refl (λ a₁. at_or_not Reads b 0x5C refl (λ a₂. at_or_not Reads b 0x0A refl (λ a₃. at_or_not Reads b 0x0D refl (λ a₄. at_or_not Reads b 0x09 refl (λ a₅. any_other b a₁ a₂ a₃ a₄ a₅ small)))))
+      at_or_not Reads b 0x22 refl (λ e₁. at_or_not Reads b 0x5C refl (λ e₂. at_or_not Reads b 0x0A refl (λ e₃. at_or_not Reads b 0x0D refl (λ e₄. at_or_not Reads b 0x09 refl (λ e₅. any_other b e₁ e₂ e₃ e₄ e₅ small)))))
 
 -- A text in quotes, with a blank or nothing behind it.
 module _ (rest : List ℕ) (apart : bytes_from Behind rest ≡ Some ([], rest)) where
@@ -85,7 +75,7 @@ quoted_reads_back bytes small =
 
 -- A blank is no digit.
 not_blank : (d n : ℕ) → digit_value d ≡ Some n → is_blank d ≡ false
-not_blank d n = at_or_not (λ b. digit_value b ≡ Some n → is_blank b ≡ false) d 0x20 (λ e. (cc)) (λ a₁. at_or_not (λ b. digit_value b ≡ Some n → is_blank b ≡ false) d 0x09 (λ e. (cc)) (λ a₂. at_or_not (λ b. digit_value b ≡ Some n → is_blank b ≡ false) d 0x0D (λ e. (cc)) (λ a₃ e. let e₁ = ne_eqb d 0x20 a₁ in let e₂ = ne_eqb d 0x09 a₂ in let e₃ = ne_eqb d 0x0D a₃ in simp (e₁, e₂, e₃))))
+not_blank d n is = grind (arith, nat_tests)
 
 module _ (digit : ℕ → ℕ) (value : (n : ℕ) → n < 16 → digit_value (digit n) ≡ Some n) where
   pair_read : (b : ℕ) (rest : List ℕ) → b < 256 → bytes_from Pairs (digit (b / 16) ∷ digit (b % 16) ∷ rest) ≡ option_map (read_in_front b) (bytes_from Pairs rest)

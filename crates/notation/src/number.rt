@@ -19,9 +19,5 @@ pub fn number(word: &[u8]) -> Option<u32>
     if word.is_empty() {
         return None;
     }
-    let mut value = 0;
-    for byte in word {
-        value = longer(value, *byte)?;
-    }
-    Some(value)
+    word.iter().try_fold(0, |value, byte| longer(value, *byte))
 }

@@ -1,4 +1,4 @@
 pub mod Palette
-pub mod Whole
+pub mod Piles
 pub mod Pieces
 pub mod Summarized

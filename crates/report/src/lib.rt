@@ -12,5 +12,6 @@ pub mod view;
 
 pub use colours::report_of;
 pub use measuring::{summarize, summary_of, summary_text};
-pub use pile::{NAMES, Pile};
+pub use pile::Pile;
+pub use pile_names::NAMES;
 pub use view::View;

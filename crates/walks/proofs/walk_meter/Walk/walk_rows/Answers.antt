@@ -1,6 +1,6 @@
-use Rattle.std.proofs.Common.{◌≡◌, ◌<◌, length, get_or, ap, ◌∙◌, arith}
+use Rattle.std.proofs.Common.{◌≡◌, length, get_or, ap, ◌∙◌, arith}
 use Rattle.measure.specs.Walk.{still, entry}
-use Rattle.measure.proofs.Rows.{length_rows, get_d_rows, filled_none, filled_more, filled_all}
+use Rattle.measure.proofs.Rows.{length_rows, get_d_rows, filled_none, filled_all}
 use Rattle.measure.proofs.Walk.{walk_or_still}
 use Rattle.walks.proofs.walk_meter.Walk.walk_rows.Goals as goal
 
@@ -10,13 +10,6 @@ loop-s-init g c =
     let made = c.still_rows-entries.ensures in
     filled_none (λ s. entry a s c.args.bytes.now) still c.still_rows-entries.result (ap length made ∙ length_rows still)
     (λ s h. ap (λ xs. get_or xs s (still 0)) made ∙ get_d_rows still s (still 0) h)
-
-pub loop-s-preserved : goal.loop-s-preserved
-loop-s-preserved g c =
-    let a = g.G.Grammar.meaning c.args.self.now.grammar in
-    let lawful = g.G.Grammar.lawful c.args.self.now.grammar in
-    let within : c.loop-s.s < 64 = omega (arith, lawful.few_states, c.count-s-end.ensures) in
-    filled_more (λ s. entry a s c.args.bytes.now) still c.loop-s.s c.loop-s.entries c.walk_from.result within c.walk_from.ensures c.loop-s.invariant
 
 pub returns : goal.returns
 returns g c =
