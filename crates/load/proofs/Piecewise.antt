@@ -50,12 +50,6 @@ module _ (text rest left piece : List ℕ) (n end m : ℕ) (chunks : List (List 
         enough = let room : length chunks - (end - end) + needed (length piece) ≤ m = grind (arith, nat_tests) in omega (arith, cut_length piece);
       }
 
-  pub so_far_full : false ≡ taken piece chunks end m → n < needed (length text)
-  so_far_full over =
-      let room : m < length chunks - (end - end) + needed (length piece) = grind (arith, nat_tests) in
-      let whole = ap length so_far.joined_are in
-      omega (arith, so_far.full some, length-append (joined chunks) rest)
-
 -- All pieces are in.
 module _ (text rest : List ℕ) (n : ℕ) (chunks : List (List ℕ)) (so_far : SoFar text rest n chunks) (all : length rest ≡ 0) where
   pub so_far_all : joined chunks ≡ text
