@@ -119,16 +119,16 @@ fn tree_follows_plain_lists(rt: HostRuntime) -> Result<(), Fail> {
         tree,
         plain: Plain::new(heap),
     };
-    let mut done = 0u16;
-    let mut no_run = 0u16;
-    let mut no_room = 0u16;
+    let mut outcomes = Vec::new(heap);
     for _ in 0..600 {
-        match both.replace(heap)? {
-            Ok(()) => done = done.saturating_add(1),
-            Err(ReplaceRefusal::NoRun) => no_run = no_run.saturating_add(1),
-            Err(ReplaceRefusal::NoRoom) => no_room = no_room.saturating_add(1),
-        }
+        outcomes.push(both.replace(heap)?)?;
     }
-    assert!(rt; done > 400 && no_run > 40 && no_room > 40);
+    let count = |wanted| outcomes
+        .iter()
+        .filter(|outcome| **outcome == wanted)
+        .count();
+    assert!(rt; count(Ok(())) > 400);
+    assert!(rt; count(Err(ReplaceRefusal::NoRun)) > 40);
+    assert!(rt; count(Err(ReplaceRefusal::NoRoom)) > 40);
     Ok(())
 }
