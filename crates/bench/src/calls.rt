@@ -1,10 +1,10 @@
 // Times calls on a document with a short and with a long text: keystrokes in its middle, each one byte more and then one byte less,
 // and the questions.
-use crate::timing::{time, time_rounds};
+use crate::timing::time;
 use crate::{Pile, TEXT, pile};
 use brackets::Partner;
 use document::{Answer, Call, Desk, Document};
-use load::room::{UNREAD, UNUSED};
+use load::{Room, UNREAD};
 use meter::Blank;
 use model::Change;
 use std::io;
@@ -12,7 +12,7 @@ use walks::{DocumentMeter, Readings, document_meter};
 
 const KEYS: u32 = 4_000;
 
-const SLOTS: usize = 4096;
+const SLOTS: u16 = 4096;
 
 const CELLS: usize = 262144;
 
@@ -127,7 +127,7 @@ fn place_of(partner: Option<Partner>) -> u32 {
 fn report_question<F: Fn() -> u32 + Drop>(rt: &HostRuntime, name: &str, ask: F) -> io::Result<()>
     requires { F.IsAlwaysCallable ask }
 {
-    let took = time_rounds(rt, KEYS, 0u32, |used, _| used.max(ask()))?;
+    let took = time(rt, || (0..KEYS).fold(0u32, |used, _| used.max(ask())))?;
     let each = took.nanoseconds / KEYS as u128;
     let used = took.value;
     println!(rt; "  {name}: {each} ns ({used})")
@@ -135,13 +135,11 @@ fn report_question<F: Fn() -> u32 + Drop>(rt: &HostRuntime, name: &str, ask: F) 
 
 // A keystroke, and the questions, in a text of so many pieces of 64 bytes.
 pub fn report_keystroke(rt: &HostRuntime, pieces: u32) -> io::Result<()> {
-    let mut slots = vec![in rt.alloc(); UNUSED; SLOTS]?;
-    let mut store = vec![in rt.alloc(); 0; 64 * SLOTS]?;
-    let mut readings = vec![in rt.alloc(); UNREAD; SLOTS]?;
+    let mut room = Room::for_slots(rt.alloc(), SLOTS)?;
     let mut screen = vec![in rt.alloc(); 0; CELLS]?;
     let mut reading = UNREAD;
     let mut host = Host {
-        document: Document::new(&mut slots, &mut store, &mut readings),
+        document: Document::new(&mut room.slots, &mut room.store, &mut room.readings),
         meter: document_meter(pile(), Blank),
         desk: Desk {
             screen: &mut screen,

@@ -8,7 +8,7 @@ use layers::{Comment, Quoted};
 use measure::walk_reading::Passage;
 use meter::Meter;
 use std::{env, io};
-use timing::{Timed, time_rounds};
+use timing::{Timed, time};
 use walks::Walk;
 
 mod calls;
@@ -40,17 +40,22 @@ fn end_of(reading: &Option<Passage>, round: u32) -> u8 {
         .map_or(0, |passage| passage.entries[round as usize % 18].end)
 }
 
+// Each round makes a value out of the last one, so that none can be left out.
 fn time_walk(rt: &HostRuntime) -> io::Result<Timed<u8>> {
     let grammar = pile();
-    time_rounds(rt, ROUNDS, 0, |used, round| {
-        used ^ grammar::walk(&grammar, used % 18, &text_of(round))
+    time(rt, || {
+        (0..ROUNDS).fold(0u8, |used, round| {
+            used ^ grammar::walk(&grammar, used % 18, &text_of(round))
+        })
     })
 }
 
 fn time_measure(rt: &HostRuntime) -> io::Result<Timed<u8>> {
     let meter = Walk { grammar: pile() };
-    time_rounds(rt, ROUNDS, 0, |used, round| {
-        used ^ end_of(&meter.measure(&text_of(round)), round)
+    time(rt, || {
+        (0..ROUNDS).fold(0u8, |used, round| {
+            used ^ end_of(&meter.measure(&text_of(round)), round)
+        })
     })
 }
 
@@ -62,10 +67,12 @@ fn time_join(rt: &HostRuntime) -> io::Result<Timed<u8>> {
         meter.measure(&TEXT[9..]),
         meter.measure(&TEXT[40..]),
     ];
-    time_rounds(rt, ROUNDS, 0, |used, round| {
-        let left = &pieces[round as usize % 4];
-        let right = &pieces[round as usize / 4 % 4];
-        used ^ end_of(&meter.join(left, right), round)
+    time(rt, || {
+        (0..ROUNDS).fold(0u8, |used, round| {
+            let left = &pieces[round as usize % 4];
+            let right = &pieces[round as usize / 4 % 4];
+            used ^ end_of(&meter.join(left, right), round)
+        })
     })
 }
 

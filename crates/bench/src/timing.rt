@@ -19,20 +19,3 @@ pub fn time<T: Drop, F: FnOnce() -> T + Drop>(rt: &HostRuntime, work: F) -> io::
         nanoseconds: start.elapsed(rt)?.as_nanos(),
     })
 }
-
-// So many rounds, each of which makes a value out of the last one, so that none can be left out.
-pub fn time_rounds<T: Drop, F: FnMut(T, u32) -> T + Drop>(
-    rt: &HostRuntime,
-    rounds: u32,
-    first: T,
-    round: F,
-) -> io::Result<Timed<T>>
-    requires { F.IsAlwaysCallable round }
-{
-    let start = Instant::now(rt)?;
-    let value = (0..rounds).fold(first, round);
-    Ok(Timed {
-        value,
-        nanoseconds: start.elapsed(rt)?.as_nanos(),
-    })
-}

@@ -1,15 +1,10 @@
 -- A text loaded piece by piece: the chunks so far and the rest are the text, as few as can be, and full as long as there is a rest.
-use Rattle.std.proofs.Common.{◌≡◌, ℕ, ◌+◌, ◌-◌, ◌*◌, ◌<◌, ◌≤◌, min, Bool, true, false, ◌&&◌, leb, List, [], ◌++◌, length, take, drop, sym, refl, ap, ◌∙◌, append-nil, append_assoc, arith, length-append}
-use Rattle.std.proofs.Math.Bool.{and_assoc}
+use Rattle.std.proofs.Common.{◌≡◌, ℕ, ◌+◌, ◌-◌, ◌*◌, ◌<◌, ◌≤◌, min, Bool, true, ◌&&◌, leb, List, [], ◌++◌, length, take, drop, sym, refl, ap, ◌∙◌, append-nil, append_assoc, arith, length-append}
 use Rattle.std.proofs.lemmas.List.{take_all, drop_all, nil_from_length}
 use Rattle.std.proofs.lemmas.Bool.Decides.{nat_tests}
 use Rattle.chunks.specs.Cut.{needed, joined, cut, replaced}
 use Rattle.chunks.proofs.Cut.{cut_joined, cut_length}
 use Rattle.chunks.proofs.Joined.{joined_append}
-use Rattle.slots.specs.declared.slot.Slot.{Slot}
-use Rattle.tree.specs.declared.chunk_tree.ChunkTree.{ChunkTree}
-use Rattle.tree.specs.Public.{preparable}
-use Rattle.load.specs.Loading.{roomy}
 
 pub record SoFar (text rest : List ℕ) (n : ℕ) (chunks : List (List ℕ)) : Type 0 where
   pub joined_are : joined chunks ++ rest ≡ text
@@ -50,12 +45,6 @@ module _ (text rest left piece : List ℕ) (n end m : ℕ) (chunks : List (List 
         enough = let room : length chunks - (end - end) + needed (length piece) ≤ m = grind (arith, nat_tests) in omega (arith, cut_length piece);
       }
 
-  pub so_far_full : false ≡ taken piece chunks end m → n < needed (length text)
-  so_far_full over =
-      let room : m < length chunks - (end - end) + needed (length piece) = grind (arith, nat_tests) in
-      let whole = ap length so_far.joined_are in
-      omega (arith, so_far.full some, length-append (joined chunks) rest)
-
 -- All pieces are in.
 module _ (text rest : List ℕ) (n : ℕ) (chunks : List (List ℕ)) (so_far : SoFar text rest n chunks) (all : length rest ≡ 0) where
   pub so_far_all : joined chunks ≡ text
@@ -63,7 +52,3 @@ module _ (text rest : List ℕ) (n : ℕ) (chunks : List (List ℕ)) (so_far : S
 
   pub so_far_few : length chunks ≡ needed (length text)
   so_far_few = so_far.few ∙ ap (λ l. needed (length l)) so_far_all
-
--- A new tree can be prepared exactly if lent memory has room.
-pub room_is : {R : Type 0} (T : ChunkTree R) (n : ℕ) (lent : List (Slot R)) (store : List ℕ) (readings : List R) → T.memory.usable ≡ 0 → T.memory.slots.now ≡ lent → T.memory.store.now ≡ store → T.memory.readings.now ≡ readings → preparable T n ≡ roomy n lent store readings
-room_is T n lent store readings e s b r = simp (e, s, b, r) (sym (and_assoc (leb 1 n) (leb n 4096) _))

@@ -11,5 +11,5 @@ pub mod slot_count;
 pub use lines::loaded_text;
 pub use loaded::Loaded;
 pub use loading::load;
-pub use room::load_text;
+pub use room::{Room, UNREAD, load_text};
 pub use slot_count::{MOST, slots_named};

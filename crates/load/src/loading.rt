@@ -16,7 +16,7 @@ pub type Reading = Readings<()>;
 const PIECE: usize = 1024;
 
 // Nothing where the text needs more chunks than `usable`, or where lent memory has no room for as many slots.
-// No struct: a host lends slots, store and readings apart, each with a length of its own.
+// No struct: a host lends slots, store and readings apart, each with a length of its own, and a grammar colours any text.
 pub fn load<G: Grammar + Copy>(
     grammar: &G,
     usable: u16,

@@ -1,6 +1,7 @@
-// Loads a text into a tree over memory that is made for it and let go behind it.
+// Memory that is made for a tree and let go behind it, and a text that is loaded into such memory.
 ghost use Rattle.std.specs.Prelude.{IfOk};
 ghost use Rattle.load.specs.Loading.{Answers, usual};
+ghost use Rattle.load.specs.Room.{Holds, needed_for};
 
 use crate::loaded::Loaded;
 use crate::loading::{Reading, load};
@@ -8,6 +9,7 @@ use grammar::Grammar;
 use measure::pair_reading::PairReading;
 use slots::slot::{Node, Slot};
 use std::alloc::{AllocError, Global};
+use tree::Lent;
 
 // What a reading is before anything was read.
 pub const UNREAD: Reading = PairReading {
@@ -26,6 +28,39 @@ pub const UNUSED: Slot<Reading> = Slot {
     own: UNREAD,
 };
 
+// What is lent to a tree: slots that were never used, a store of zeros, and readings of nothing.
+#[derive(Drop)]
+pub struct Room {
+    pub slots: Vec<Slot<Reading>>,
+    pub store: Vec<u8>,
+    pub readings: Vec<Reading>,
+}
+
+impl Room {
+    pub fn new(heap: Global, lent: Lent) -> Result<Room, AllocError>
+        ensures { IfOk result (Holds lent) }
+    {
+        Ok(Room {
+            slots: vec![in heap; UNUSED; lent.slots]?,
+            store: vec![in heap; 0; lent.store]?,
+            readings: vec![in heap; UNREAD; lent.readings]?,
+        })
+    }
+
+    // As much of each as so many slots need.
+    pub fn for_slots(heap: Global, slots: u16) -> Result<Room, AllocError>
+        ensures { IfOk result (Holds (needed_for slots)) }
+    {
+        let slots = usize::from(slots);
+        let lent = Lent {
+            slots,
+            store: 64 * slots,
+            readings: slots,
+        };
+        Room::new(heap, lent)
+    }
+}
+
 // Nothing where the text needs more chunks than `usable`, or where these are not 1 to 4,096.
 pub fn load_text<G: Grammar + Copy>(
     heap: Global,
@@ -35,9 +70,13 @@ pub fn load_text<G: Grammar + Copy>(
 ) -> Result<Option<Loaded>, AllocError>
     ensures { IfOk result (Answers (usual usable) (G.Grammar.meaning grammar.now) usable text.now) }
 {
-    let room = usize::from(usable);
-    let mut slots = vec![in heap; UNUSED; room]?;
-    let mut store = vec![in heap; 0; 64 * room]?;
-    let mut readings = vec![in heap; UNREAD; room]?;
-    Ok(load(grammar, usable, &mut slots, &mut store, &mut readings, text))
+    let mut room = Room::for_slots(heap, usable)?;
+    Ok(load(
+        grammar,
+        usable,
+        &mut room.slots,
+        &mut room.store,
+        &mut room.readings,
+        text,
+    ))
 }

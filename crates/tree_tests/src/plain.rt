@@ -69,10 +69,9 @@ impl Plain {
 
 // As few chunks as can be: each takes its share of what is left, rounded up.
 fn push_shares(lengths: &mut Vec<usize>, bytes: usize) -> Result<(), AllocError> {
-    let count = bytes.div_ceil(64);
     let mut left = bytes;
-    for k in 0..count {
-        let share = left.div_ceil(count - k);
+    for chunks in (1..=bytes.div_ceil(64)).rev() {
+        let share = left.div_ceil(chunks);
         lengths.push(share)?;
         left = left.saturating_sub(share);
     }

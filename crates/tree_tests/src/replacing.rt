@@ -3,41 +3,21 @@ use crate::dice::Dice;
 use crate::plain::Plain;
 use grammar::Words;
 use layers::{Comment, Quoted};
-use measure::pair_reading::PairReading;
-use measure::place_reading::Extent;
-use measure::walk_reading::Passage;
-use meter::{Meter, Pair, Place};
-use slots::slot::{Node, Slot};
+use load::Room;
+use load::loading::Reading;
+use meter::{Blank, Meter};
 use std::alloc::{AllocError, Global};
 use std::test::Fail;
 use tree::{ChunkTree, ReplaceRefusal};
-use walks::Walk;
-
-type Reading = PairReading<Option<Passage>, Option<Extent>>;
+use walks::{DocumentMeter, document_meter};
 
 const SLOTS: u16 = 32;
 
-const UNREAD: Reading = PairReading {
-    first: None,
-    second: None,
-};
-
-const UNUSED: Slot<Reading> = Slot {
-    node: Node::ALONE,
-    size: 0,
-    next: None,
-    own: UNREAD,
-};
-
-fn meter() -> Pair<Walk<Quoted<Comment<Words>>>, Place> {
-    Pair {
-        first: Walk {
-            grammar: Quoted {
-                below: Comment { below: Words },
-            },
-        },
-        second: Place,
-    }
+fn meter() -> DocumentMeter<Quoted<Comment<Words>>, Blank> {
+    let grammar = Quoted {
+        below: Comment { below: Words },
+    };
+    document_meter(grammar, Blank)
 }
 
 // Some bytes: a few, or up to four chunks of them.
@@ -131,26 +111,24 @@ impl Both<'_> {
 #[test]
 fn tree_follows_plain_lists(rt: HostRuntime) -> Result<(), Fail> {
     let heap = rt.alloc();
-    let mut slots = vec![in heap; UNUSED; SLOTS as usize]?;
-    let mut store = vec![in heap; 0; 64 * SLOTS as usize]?;
-    let mut readings = vec![in heap; UNREAD; SLOTS as usize]?;
-    let mut tree = ChunkTree::new(&mut slots, &mut store, &mut readings);
+    let mut room = Room::for_slots(heap, SLOTS)?;
+    let mut tree = ChunkTree::new(&mut room.slots, &mut room.store, &mut room.readings);
     assert!(rt; tree.prepare(SLOTS).is_ok());
     let mut both = Both {
         dice: Dice { state: 1 },
         tree,
         plain: Plain::new(heap),
     };
-    let mut done = 0u16;
-    let mut no_run = 0u16;
-    let mut no_room = 0u16;
+    let mut outcomes = Vec::new(heap);
     for _ in 0..600 {
-        match both.replace(heap)? {
-            Ok(()) => done = done.saturating_add(1),
-            Err(ReplaceRefusal::NoRun) => no_run = no_run.saturating_add(1),
-            Err(ReplaceRefusal::NoRoom) => no_room = no_room.saturating_add(1),
-        }
+        outcomes.push(both.replace(heap)?)?;
     }
-    assert!(rt; done > 400 && no_run > 40 && no_room > 40);
+    let count = |wanted| outcomes
+        .iter()
+        .filter(|outcome| **outcome == wanted)
+        .count();
+    assert!(rt; count(Ok(())) > 400);
+    assert!(rt; count(Err(ReplaceRefusal::NoRun)) > 40);
+    assert!(rt; count(Err(ReplaceRefusal::NoRoom)) > 40);
     Ok(())
 }

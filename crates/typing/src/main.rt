@@ -12,7 +12,7 @@ use document::{Document, Due, Pass, Refused};
 use editing::Readings;
 use grammar::Words;
 use layers::Comment;
-use load::room::{UNREAD, UNUSED};
+use load::Room;
 use meter::Blank;
 use model::Refusal;
 use notation::{digits_text, quoted_text};
@@ -20,10 +20,10 @@ use std::io;
 use std::io::Write;
 use walks::{DocumentMeter, document_meter};
 
-const SLOTS: usize = 8;
+const SLOTS: u16 = 8;
 
 // How much of the text is shown.
-const SHOWN: usize = 40;
+const SHOWN: u32 = 40;
 
 // As many cells as the longest text has bytes.
 const CELLS: usize = 262144;
@@ -54,10 +54,9 @@ impl Scene<'_> {
         requires { paint_refusal (model_of self.old.document) due.change (length self.old.screen.now) ≡ None }
         ensures { (model_of self.new.document).due ≡ None }
     {
-        match self.document.paint(&scene_meter(), due, self.screen) {
-            Ok(pass) => pass,
-            Err(_) => unreachable!(),
-        }
+        self.document
+            .paint(&scene_meter(), due, self.screen)
+            .unwrap()
     }
 
     // One edit and its paint. A refused edit gives its pass back, and that is the pass to go on with.
@@ -65,52 +64,41 @@ impl Scene<'_> {
         requires { (model_of self.old.document).due ≡ None }
         ensures { (model_of self.new.document).due ≡ None }
     {
-        let _ = self.document.size();
-        let due = match self
+        match self
             .document
             .edit(&scene_meter(), pass, from, to, text.as_bytes())
         {
-            Ok(due) => due,
-            Err(Refused { back, refusal: _ }) => return back,
-        };
-        let _ = self.document.size();
-        self.paint(due)
+            Ok(due) => self.paint(due),
+            Err(Refused { back, refusal: _ }) => back,
+        }
     }
 
     // Closes a document on which nothing waits to be painted: it is not refused.
     fn close(&self, pass: Pass)
         requires { (model_of self.now.document).due ≡ None }
     {
-        match self.document.close(pass) {
-            Ok(()) => {}
-            Err(_) => unreachable!(),
-        }
+        self.document.close(pass).unwrap()
     }
 
     // The text, and below it the screen's cells for it.
     fn show(&self, rt: &HostRuntime) -> io::Result<()> {
-        let mut text = [0; SHOWN];
         let (bytes, _, _) = self.document.size();
-        let count = (bytes as usize).min(SHOWN).min(self.screen.len());
-        if self.document.text(0, count as u32, &mut text).is_err() {
-            return Ok(());
-        }
-        let mut out = quoted_text(rt.alloc(), &text[..count])?;
+        let count = bytes.min(SHOWN);
+        let mut text = vec![in rt.alloc(); 0; count as usize]?;
+        self.document.text(0, count, &mut text).unwrap();
+        let mut out = quoted_text(rt.alloc(), &text)?;
         out.extend_from_slice(b"\n ")?;
-        out.extend_from_slice(&digits_text(rt.alloc(), &self.screen[..count])?)?;
+        out.extend_from_slice(&digits_text(rt.alloc(), &self.screen[..count as usize])?)?;
         out.push(b'\n')?;
         rt.stdout().write_all(&out)
     }
 }
 
 fn main(rt: HostRuntime) -> io::Result<()> {
-    let mut slots = vec![in rt.alloc(); UNUSED; SLOTS]?;
-    let mut store = vec![in rt.alloc(); 0; 64 * SLOTS]?;
-    let mut readings = vec![in rt.alloc(); UNREAD; SLOTS]?;
+    let mut room = Room::for_slots(rt.alloc(), SLOTS)?;
     let mut screen = vec![in rt.alloc(); 0; CELLS]?;
-    let document = Document::new(&mut slots, &mut store, &mut readings);
     let mut scene = Scene {
-        document,
+        document: Document::new(&mut room.slots, &mut room.store, &mut room.readings),
         screen: &mut screen,
     };
     let pass = match scene.open() {

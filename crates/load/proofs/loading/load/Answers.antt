@@ -1,21 +1,20 @@
-use Rattle.std.proofs.Common.{◌≡◌, ◌≤◌, true, false, length, sym, refl, ap, ◌∙◌, subst, arith}
+use Rattle.std.proofs.Common.{◌≡◌, ◌≤◌, length, sym, ap, ◌∙◌, subst, arith}
 use Rattle.std.specs.Slice.Iter.{chunks_rest}
+use Rattle.std.proofs.lemmas.Grind.{common_steps}
 use Rattle.std.proofs.lemmas.List.{length-map}
-use Rattle.std.proofs.lemmas.Bool.{le-leb, lt-leb, and_from, and_left, and_right}
 use Rattle.measure.specs.Blank.{blank_measure}
 use Rattle.measure.specs.Measure.{reading}
 use Rattle.measure.specs.Pair.{pair_measure}
 use Rattle.measure.specs.Place.{place_measure}
 use Rattle.measure.specs.Walk.{walk_measure}
 use Rattle.chunks.specs.Tree.{slots}
-use Rattle.chunks.specs.Cut.{needed, joined}
+use Rattle.chunks.specs.Cut.{joined}
 use Rattle.slots.specs.View.{chunk_of}
 use Rattle.slots.proofs.Ranges.{between_all}
 use Rattle.tree.specs.Public.{tree_in, chunks_now}
 use Rattle.report.specs.Summary.{summary}
 use Rattle.report.proofs.Summarized.{summarized_is}
-use Rattle.load.specs.Loading.{roomy}
-use Rattle.load.proofs.Piecewise.{SoFar, so_far_none, so_far_more, so_far_full, so_far_all, so_far_few, room_is}
+use Rattle.load.proofs.Piecewise.{SoFar, so_far_none, so_far_more, so_far_all, so_far_few}
 use Rattle.load.proofs.loading.load.Goals as goal
 
 pub loop-piece-init : goal.loop-piece-init
@@ -41,22 +40,6 @@ loop-piece-preserved g c =
       kept = done.keeps loop.kept;
     }
 
-pub returns-in_default : goal.returns-in_default
-returns-in_default g c =
-    let tree = c.new-tree.ensures in
-    let room = room_is c.new-tree.result c.args.usable c.args.slots.now c.args.store.now c.args.readings.now tree.usable tree.slots tree.store tree.readings in
-    let none : roomy c.args.usable c.args.slots.now c.args.store.now c.args.readings.now ≡ false = sym room ∙ sym c.in_default.ensures.done in
-    and_left _ _ none
-
-pub returns-in_default-replace : goal.returns-in_default-replace
-returns-in_default-replace g c =
-    let text = c.args.text.now in
-    let n = c.args.usable in
-    let loop = c.loop-piece.invariant in
-    let next = c.in-Some.ensures.steps in
-    let over = so_far_full text (chunks_rest c.loop-piece.piece-iterator) (chunks_rest c.next.new.self) c.in-Some.piece.now n c.chunks-end.result c.loop-piece.tree.memory.usable (chunks_now c.loop-piece.tree) loop.so_far next.1.0 (rw loop.pieces at next.1.1) next.1.2 c.chunks-end.ensures.is loop.usable c.in_default-replace.ensures.done in
-    and_right _ _ (lt-leb (needed (length text)) n over)
-
 pub returns : goal.returns
 returns g c =
     let n = c.args.usable in
@@ -71,13 +54,10 @@ returns g c =
     let whole = so_far_all text rest n chunks so_far all in
     let few = so_far_few text rest n chunks so_far all in
     let made = c.new-tree.ensures in
-    let room = room_is c.new-tree.result n c.args.slots.now c.args.store.now c.args.readings.now made.usable made.slots made.store made.readings in
-    let can : roomy n c.args.slots.now c.args.store.now c.args.readings.now ≡ true = sym room ∙ sym c.in-Ok.ensures.done in
-    let enough : needed (length text) ≤ n = omega (arith, few, so_far.enough) in
     let μ = pair_measure (walk_measure a) (pair_measure place_measure blank_measure) in
     let total : length (joined chunks) ≤ c.bytes-bytes.result = omega (arith, c.bytes-bytes.ensures.is) in
     let read : c.reading-reading.result ≡ reading μ text = c.reading-reading.ensures c.loop-piece.invariant.kept ∙ ap (reading μ) (between_all c.bytes-bytes.result (joined chunks) total ∙ whole) in (
-      and_from _ _ can (le-leb (needed (length text)) n enough),
+      grind (arith, common_steps, few, so_far.enough),
       record {
         bytes_are = c.bytes-bytes.ensures.is ∙ ap length whole;
         chunks_are = c.chunks.ensures.is ∙ few;
