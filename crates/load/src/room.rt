@@ -37,6 +37,7 @@ pub struct Room {
 }
 
 impl Room {
+    // So much of each.
     pub fn new(heap: Global, lent: Lent) -> Result<Room, AllocError>
         ensures { IfOk result (Holds lent) }
     {
