@@ -1,9 +1,8 @@
 -- A table of 64 entries, and how it is filled from the first state on.
 use Rattle.std.proofs.Common.{◌≡◌, ℕ, ◌<◌, cond, ltb, List, length, get_or, sym, ◌∙◌, arith}
 use Rattle.std.proofs.lemmas.List.FromFn.{length-map-range_with_len, get_or-map-range_with_len, fill_by_all}
-use Rattle.std.proofs.lemmas.List.{get_or_default}
 use Rattle.std.proofs.lemmas.Bool.{cond-false, le-ltb}
-use Rattle.measure.specs.Walk.{rows, still, entry_at}
+use Rattle.measure.specs.Walk.{rows, still}
 use Rattle.measure.specs.declared.walk_reading.Entry.{Entry}
 
 pub length_rows : (f : ℕ → Entry) → length (rows f) ≡ 64
@@ -33,7 +32,3 @@ module _ (f g : ℕ → Entry) where
   -- Where g is right from n on, the table is done.
   pub filled_all : (n : ℕ) (xs : List Entry) (h : ℕ → Entry) → Filled f g n xs → ((s : ℕ) → s < 64 → cond (ltb s n) (f s) (g s) ≡ h s) → xs ≡ rows h
   filled_all n xs h so_far right = rows_all h xs (still 0) so_far.long (λ s k. so_far.each s k ∙ right s k)
-
--- A read within a table is its entry.
-pub read_entry : (xs : List Entry) (s : ℕ) → length xs ≡ 64 → s < 64 → get_or xs s (still 0) ≡ entry_at xs s
-read_entry xs s long h = get_or_default xs s (still 0) (still s) (omega arith)
