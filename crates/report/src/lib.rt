@@ -12,6 +12,5 @@ pub mod view;
 
 pub use colours::report_of;
 pub use measuring::{summarize, summary_of, summary_text};
-pub use pile::Pile;
-pub use pile_names::NAMES;
+pub use pile::{NAMES, Pile};
 pub use view::View;

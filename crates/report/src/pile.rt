@@ -27,3 +27,7 @@ pub const PILES: [Pile; 10] = [
     Pile::Comment4,
     Pile::Comment5,
 ];
+
+// Their names in that order. A text and not written from them, as it is a constant; that it lists them is proved.
+pub const NAMES: &str =
+    "words, comment, string, region, string-comment, comment-string, comment-region, string-region, comment4, comment5";

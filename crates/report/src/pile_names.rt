@@ -1,9 +1,8 @@
-// The names of the piles: of each its own, the pile that has a name, and all in a list.
+// The names of the piles: of each its own, and the pile that has a name.
 ghost use Rattle.std.specs.Prelude.{◌≡◌};
-ghost use Rattle.report.specs.Piles.{pile_name, FindsByName};
+ghost use Rattle.report.specs.Piles.{pile_name, listed, FindsByName};
 
-use crate::pile::{PILES, Pile};
-use std::fmt;
+use crate::pile::{NAMES, PILES, Pile};
 
 impl Pile {
     // A text and no Display, since `named` compares it.
@@ -32,20 +31,7 @@ impl Pile {
     }
 }
 
-// The names of all piles, as a message lists them.
-#[derive(Clone, Copy)]
-pub struct PileNames;
-
-impl fmt::Display for PileNames {
-    fn fmt<W: fmt::Write>(&self, f: &mut fmt::Formatter<W>) -> fmt::Result {
-        for (i, pile) in PILES.iter().enumerate() {
-            if i > 0 {
-                f.write_str(", ")?;
-            }
-            f.write_str(pile.name())?;
-        }
-        Ok(())
-    }
-}
-
-pub const NAMES: PileNames = PileNames;
+// The list of names has the name of every pile.
+pub fn names_list_all_piles()
+    ensures { NAMES.now ≡ listed PILES }
+{}
