@@ -26,7 +26,6 @@ pub fn write<R: Copy>(memory: &mut Memory<R>, i: u16, bytes: &[u8], own: R)
 }
 
 // Takes a free slot for a chunk; there is one.
-#[tactic(auto, using(chunks::proofs::Footprint::first_below, slots::proofs::Elsewhere::elsewhere_stack, slots::proofs::Elsewhere::roomy_elsewhere, slots::proofs::Stacking::stored))]
 pub fn store_chunk<R: Copy, M: Meter<Reading = R>>(
     meter: &M,
     memory: &mut Memory<R>,

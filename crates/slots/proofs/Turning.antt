@@ -58,10 +58,10 @@ module _ {R : Type 0} where
     few_bytes = ready.few_bytes;
   }
 
-  pub joined_turned : (μ : Measure R) (s : Side) (m : Memory R) (a : Tree) (i : ℕ) (b : Tree) (after : Memory R) (t : Tree) → Joined μ (other s) m b i a after t → Joined μ s m a i b after t
-  joined_turned μ s m a i b after t j = record {
+  pub joined_turned : {μ : Measure R} {s s' : Side} {m : Memory R} {a : Tree} {i : ℕ} {b : Tree} {after : Memory R} {t : Tree} → s' ≡ other s → Joined μ s' m b i a after t → Joined μ s m a i b after t
+  joined_turned {s = s} {m = m} {a = a} {i = i} {b = b} {after = after} turn j = record {
     frame = frame_more m after _ _ (λ k e. omega arith) j.frame;
-    order = j.order ∙ run_turned s (slots a) i (slots b);
+    order = j.order ∙ ap (λ (z : Side). run z (slots b) i (slots a)) turn ∙ run_turned s (slots a) i (slots b);
     over_near = j.over_far;
     over_far = j.over_near;
     high = λ n p q. j.high n q p;

@@ -1,10 +1,8 @@
-use Rattle.std.proofs.Common.{ℕ, suc, ◌<◌, sym, ◌∙◌, subst, arith}
-use Rattle.chunks.specs.declared.side.Side.{Side}
+use Rattle.std.proofs.Common.{ℕ, suc, ◌<◌, sym, ◌∙◌, arith}
 use Rattle.chunks.specs.Tree.{Tree, height, Level}
 use Rattle.chunks.specs.Sides.{around}
 use Rattle.chunks.proofs.Sides.{root_around}
 use Rattle.slots.specs.Holds.{Ready}
-use Rattle.slots.specs.Join.{Joined}
 use Rattle.slots.proofs.Turning.{ready_turned, joined_turned, joined_linked}
 use Rattle.slots.proofs.Rotating.{Seen, seen, steep_higher, steep_lower}
 use Rattle.slots.proofs.Joining.{height_held, down_ready, down_lower, down_grown, down_joined}
@@ -59,10 +57,8 @@ returns-in-Some g t c a b ready =
 
 pub returns-then-is_some : goal.returns-then-is_some
 returns-then-is_some g t c a b ready =
-    let μ = g.M.Meter.scale c.args.meter.now in
     let made = c.join.ensures b a (ready_turned ready) in
-    let turned = subst (λ (s : Side). Joined μ s c.args.memory.now b c.args.i a c.join.new.memory made.0) c.other-then-is_some.ensures made.1.1 in
-    (made.0, (made.1.0, joined_turned μ c.args.side _ a _ b _ made.0 turned))
+    (made.0, (made.1.0, joined_turned c.other-then-is_some.ensures made.1.1))
 
 pub returns-else-is_some : goal.returns-else-is_some
 returns-else-is_some g t c a b ready =

@@ -1,9 +1,7 @@
-use Rattle.std.proofs.Common.{◌≡◌, suc, sym, ◌∙◌, subst, arith}
-use Rattle.chunks.specs.declared.side.Side.{Side}
+use Rattle.std.proofs.Common.{◌≡◌, suc, sym, ◌∙◌, arith}
 use Rattle.chunks.specs.Tree.{height, Level}
 use Rattle.chunks.specs.Sides.{around}
 use Rattle.chunks.proofs.Sides.{root_around}
-use Rattle.slots.specs.Join.{Joined}
 use Rattle.slots.proofs.Turning.{ready_turned, joined_turned}
 use Rattle.slots.proofs.Rotating.{steep_higher, steep_lower}
 use Rattle.slots.proofs.Joining.{settled_linked}
@@ -11,15 +9,12 @@ use Rattle.balance.proofs.join.settle.Goals as goal
 
 pub returns-then-is_some : goal.returns-then-is_some
 returns-then-is_some g c a b grown =
-    let μ = g.M.Meter.scale c.args.meter.now in
     let ready = grown.ready in
     let far = grown.far_low in
     let higher = steep_higher b a 1 _ (c.top_if_higher.ensures b a ready.far_root ready.near_root ready.far_holds ready.near_holds) (sym c.is_some.ensures ∙ c.if-is_some.true) in
     let two : height b ≡ suc (suc (height a)) = omega arith in
     let made = c.rotate.ensures b a (ready_turned ready) two in
-    let t = made.0 in
-    let turned = subst (λ (s : Side). Joined μ s c.args.memory.now b c.args.i a c.rotate.new.memory t) c.other.ensures made.1.1 in
-    (t, (made.1.0, record { joined = joined_turned μ c.args.side _ a _ b _ t turned; exact = λ low. let no : ⊥ = omega arith in absurd no }))
+    (made.0, (made.1.0, record { joined = joined_turned c.other.ensures made.1.1; exact = λ low. let no : ⊥ = omega arith in absurd no }))
 
 pub returns-else-is_some : goal.returns-else-is_some
 returns-else-is_some g c a b grown =

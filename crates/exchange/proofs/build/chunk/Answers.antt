@@ -1,6 +1,6 @@
-use Rattle.std.proofs.Common.{◌≡◌, ◌+◌, ◌-◌, ◌≤◌, length, take, drop, ap, ◌∙◌, add-one, arith, rules}
+use Rattle.std.proofs.Common.{◌≡◌, ◌-◌, length, take, drop, ap, ◌∙◌, add-one, arith}
 use Rattle.chunks.specs.Cut.{begin, share}
-use Rattle.chunks.proofs.Cut.{begin_more, begin_grows, begin_within}
+use Rattle.chunks.proofs.Cut.{begin_more}
 use Rattle.exchange.proofs.build.chunk.Goals as goal
 use Rattle.exchange.proofs.build.chunk.Goals.{After-begin-to}
 
