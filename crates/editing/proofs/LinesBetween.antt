@@ -1,7 +1,7 @@
 -- The line ends of a part of a text, block by block.
 use Rattle.std.proofs.Common.{◌≡◌, ℕ, ◌+◌, ◌-◌, ◌<◌, ◌≤◌, min, Bool, true, false, cond, List, ◌++◌, length, take, drop, sym, refl, ap, ◌∙◌, arith, length-take, length-drop}
 use Rattle.std.specs.List.{between, filter}
-use Rattle.std.proofs.lemmas.List.{take_min, take_at, take-append-drop, take-take, drop-append-le}
+use Rattle.std.proofs.lemmas.List.{take_min, take_at, drop-append-le}
 use Rattle.std.proofs.lemmas.List.Edits.{length-between}
 use Rattle.std.proofs.lemmas.List.Sums.{length-filter}
 use Rattle.std.proofs.lemmas.List.Recursion.{is_count_by}

@@ -13,7 +13,6 @@ pub fn ahead_comes_to_partner()
     ensures { AheadComesToPartner }
 {}
 
-#[tactic(auto, using(crate::proofs::Partners::behind_comes_to_partner))]
 pub fn behind_comes_to_partner()
     ensures { BehindComesToPartner }
 {}

@@ -1,7 +1,7 @@
 -- Painting an edit: the screen then shows the new text.
 use Rattle.std.proofs.Common.{◌≡◌, ℕ, zero, suc, ◌+◌, ◌-◌, ◌≤◌, List, [], ◌∷◌, ◌++◌, length, take, drop, sym, refl, ap, ◌∙◌, ⊎_elim, append_assoc, arith}
 use Rattle.std.specs.List.{between}
-use Rattle.std.proofs.lemmas.List.{length-append, length-drop, length-take-le, take-take, take_at, take-append-drop, drop_all, drop-drop, take-append-le, drop-take}
+use Rattle.std.proofs.lemmas.List.{length-append, length-drop, length-take-le, take-take, take_at, take-append-drop, drop_all, drop-drop, take-append-le}
 use Rattle.std.proofs.lemmas.Slice.{between_is}
 use Rattle.automaton.specs.Automaton.{Automaton}
 use Rattle.automaton.specs.Walk.{walk, colours_from, colours, state_before}

@@ -1,6 +1,5 @@
 -- Searches over two texts, one behind the other, and that a stop is the first place where the search stops.
-use Rattle.std.proofs.Common.{◌≡◌, ℕ, suc, ◌+◌, ◌<◌, Bool, true, false, cond, List, [], ◌∷◌, ◌++◌, length, get_or, take, drop, Some, None, Option, sym, refl, ap, ◌∙◌, add-zero, add_assoc, zero-add, one-add, arith}
-use Rattle.std.proofs.lemmas.List.{drop_more, drop_all}
+use Rattle.std.proofs.Common.{◌≡◌, ℕ, suc, ◌+◌, Bool, true, false, cond, List, [], ◌∷◌, ◌++◌, length, get_or, take, Some, None, Option, sym, refl, ap, ◌∙◌, add_assoc, zero-add, one-add, arith}
 use Rattle.std.proofs.lemmas.Bool.{cond-true, cond-false}
 use Rattle.search.specs.declared.stop.Stop.{Stop}
 use Rattle.search.specs.Forwards.{then, through, shifted, stop_or, stop, after, StopsAt}

@@ -1,7 +1,6 @@
 -- A search over parts of a text, and the parts that a subtree's text has from a place on.
-use Rattle.std.proofs.Common.{◌≡◌, ℕ, ◌-◌, min, true, false, List, ◌++◌, length, take, drop, Option, sym, ap, ◌∙◌, subst, ⊎_elim, append_assoc, arith}
-use Rattle.std.proofs.lemmas.List.{take_rest, drop_all, length-append}
-use Rattle.std.proofs.lemmas.Bool.{cases_lt}
+use Rattle.std.proofs.Common.{◌≡◌, ℕ, ◌-◌, true, false, List, ◌++◌, length, drop, Option, sym, ap, ◌∙◌, subst, append_assoc, arith}
+use Rattle.std.proofs.lemmas.List.{length-append}
 use Rattle.measure.specs.Measure.{Measure, reading}
 use Rattle.search.specs.declared.stop.Stop.{Stop}
 use Rattle.search.specs.Forwards.{shifted, stop}

@@ -1,4 +1,4 @@
-use Rattle.std.proofs.Common.{◌+◌, ◌-◌, length, sym, ap, ◌∙◌, arith}
+use Rattle.std.proofs.Common.{◌-◌, length, sym, ap, ◌∙◌, arith}
 use Rattle.automaton.specs.Walk.{walk}
 use Rattle.editing.specs.Content.{text_in}
 use Rattle.editing.proofs.Planning.{answered_ok}
