@@ -4,7 +4,7 @@ use Rattle.std.proofs.lemmas.List.{length-take-le}
 use Rattle.automaton.specs.Walk.{colours}
 use Rattle.automaton.proofs.Walk.{colours_length}
 use Rattle.model.specs.Calls.{range_refusal}
-use Rattle.model.proofs.Editing.{length_between}
+use Rattle.std.proofs.lemmas.List.Edits.{length-between}
 use Rattle.document.specs.Content.{model_of, text}
 use Rattle.document.proofs.Obeying.{kept_within, range_room}
 use Rattle.document.proofs.document.log.Document+Readings+X.colours_within.Goals as goal
@@ -20,5 +20,5 @@ returns-clause-written g c =
     let part = between from to (colours a (text d)) in
     let long = length-take-le cells buffer (omega arith) in
     let o = range_refusal (model_of d) from to (length (take cells buffer)) in
-    let fits : o ≡ None → length part ≤ cells = λ e. let known = range_room (model_of d) from to (length (take cells buffer)) e in omega (arith, length_between from to (colours a (text d)) (omega (arith, known.0, colours_length a 0 (text d))), known.1, long) in
+    let fits : o ≡ None → length part ≤ cells = λ e. let known = range_room (model_of d) from to (length (take cells buffer)) e in omega (arith, length-between (colours a (text d)) from to (omega (arith, known.0, colours_length a 0 (text d))), known.1, long) in
     kept_within o c.colours.result c.colours.ensures.answer _ part buffer c.colours.new.out cells fits c.colours.ensures.written
