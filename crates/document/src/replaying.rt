@@ -30,9 +30,11 @@ pub fn replay<X: Copy, G: Grammar, H: Meter<Reading = X>>(
     ensures lent { SameDesk desk.old desk.new }
 {
     let mut document = Document::new(slots, store, readings);
-    let count = calls.len().min(answers.len());
-    for (i, call) in calls[..count].iter().enumerate() {
-        answers[i] = document.perform(meter, desk, *call);
+    let mut left = calls.iter();
+    // No `zip`: of what is written through an adapter of `iter_mut` nothing is known afterwards.
+    for answer in answers.iter_mut() {
+        let Some(call) = left.next() else { break };
+        *answer = document.perform(meter, desk, *call);
     }
-    count
+    calls.len().min(answers.len())
 }

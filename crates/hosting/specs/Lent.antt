@@ -1,10 +1,12 @@
 -- What the words behind the program's name ask of a host: `[PILE] [SLOTS] [--screen N] [--store N] [--readings N]`, in any order.
 use Rattle.std.specs.Prelude.{ℕ, cond, Bool, false, List, [], ◌∷◌, Some, None, Ok, Err, Option, Result, codes, is_some, ◌&&◌, nat_le}
+use Rattle.std.specs.Borrow.{Bor}
 use Rattle.std.specs.Str.{bytes_eq}
 use Rattle.report.specs.declared.pile.Pile.{Pile}
 use Rattle.report.specs.declared.pile.Pile.TheVariants.{Words, Comment, String, Region, StringComment, CommentString, CommentRegion, StringRegion, Comment4, Comment5}
 use Rattle.notation.specs.Number.{number_of}
 use Rattle.hosting.specs.declared.options.Misread.{Misread}
+use Rattle.hosting.specs.declared.options.MisreadAt.{MisreadAt}
 use Rattle.hosting.specs.declared.options.Misread.TheVariants.{UnknownPile, SecondPile, SecondSlots, NoNumber}
 use Rattle.hosting.specs.declared.options.Setting.{Setting}
 use Rattle.hosting.specs.declared.options.Setting.TheVariants.{Screen, Store, Readings}
@@ -64,6 +66,16 @@ word_read o word None = begun_by o word (setting_named word)
 
 abbrev pub no_options : Options
 no_options = record { pile = None; slots = None; screen = None; store = None; readings = None; awaited = None }
+
+-- What a word came to, and then the words behind it; the first that cannot be followed is the one that is told.
+abbrev pub and_then : Bor (List ℕ) → Result Options Misread → (Options → Result Options MisreadAt) → Result Options MisreadAt
+and_then word (Err misread) go = Err (record { misread = misread; word = Some word })
+and_then word (Ok o) go = go o
+
+-- The options that some words come to, behind others. A setting whose number is missing behind the last word is cut off.
+abbrev pub words_read : Options → List (Bor (List ℕ)) → Result Options MisreadAt
+words_read o [] = cond (is_some o.awaited) (Err (record { misread = NoNumber; word = None })) (Ok o)
+words_read o (word ∷ words) = and_then word (word_read o word.now o.awaited) (λ next. words_read next words)
 
 abbrev pub misread_text : Misread → List ℕ
 misread_text UnknownPile = codes "there is no such pile"

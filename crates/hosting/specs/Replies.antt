@@ -1,10 +1,16 @@
 -- What a request makes of a document and of what is lent with it, and what is written as the answer.
 use Rattle.std.specs.Prelude.{◌≡◌, ℕ, ◌-◌, ◌%◌, min, List, map, length, take, Some, None, Option, unwrap_or}
 use Rattle.automaton.specs.Automaton.{Automaton}
+use Rattle.measure.specs.Blank.{blank_measure}
 use Rattle.measure.specs.Measure.{Measure}
 use Rattle.measure.specs.declared.pair_reading.PairReading.{PairReading}
 use Rattle.measure.specs.declared.place_reading.Extent.{Extent}
 use Rattle.measure.specs.declared.walk_reading.Passage.{Passage}
+use Rattle.meter.specs.declared.blank_meter.Blank.{Blank}
+use Rattle.meter.specs.declared.pair_meter.Pair.{Pair}
+use Rattle.meter.specs.declared.place_meter.Place.{Place as PlaceMeter}
+use Rattle.walks.specs.declared.walk_meter.Walk.{Walk}
+use Rattle.editing.specs.Content.{scale_of}
 use Rattle.model.specs.declared.change.Change.{Change}
 use Rattle.model.specs.declared.replacement.Replacement.{Replacement}
 use Rattle.document.specs.declared.call.Call.{Call}
@@ -66,6 +72,10 @@ digits cells = map (λ cell. lower_digit (cell % 16)) cells
 -- A reading of the document's meter with a host's readings.
 abbrev pub Readings : Type 0 → Type 0
 Readings X = PairReading (Option Passage) (PairReading (Option Extent) X)
+
+-- What a host's meter measures, by what its grammar means.
+abbrev pub host_scale : {G : Type 0} → (G → Automaton) → Pair (Walk G) (Pair PlaceMeter Blank) → Measure (Readings (Unit {0}))
+host_scale meaning meter = scale_of meaning (λ _. blank_measure) meter
 
 -- What is written of an answer: of TEXT and COLOURS, what is at the front of the buffer; of RANGE, what the lent reading tells.
 abbrev pub written_of : {X : Type 0} → Call → Answer → List ℕ → Readings X → List ℕ

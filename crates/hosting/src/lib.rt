@@ -12,6 +12,6 @@ pub mod reply;
 pub mod room;
 
 pub use host::Host;
-pub use options::{Misread, Options, begins_with_digit};
+pub use options::{Misread, MisreadAt, Options, begins_with_digit};
 pub use piles::{Work, with_pile};
 pub use room::run_session;

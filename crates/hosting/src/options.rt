@@ -1,7 +1,7 @@
 // What a host lends and under which pile it works, as the words behind the program's name say.
 ghost use Rattle.std.specs.Prelude.{◌≡◌, ◌*◌, ◌^◌, ◌<◌, unwrap_or, is_some};
 ghost use Rattle.notation.specs.Number.{number_of};
-ghost use Rattle.hosting.specs.Lent.{setting_named as setting_of, pile_named as pile_of, begins_with_digit as begins_so, set_by, slots_by, pile_by, word_read, no_options, misread_text};
+ghost use Rattle.hosting.specs.Lent.{setting_named as setting_of, pile_named as pile_of, begins_with_digit as begins_so, set_by, slots_by, pile_by, word_read, no_options, misread_text, words_read};
 
 use notation::number::number;
 use report::Pile;
@@ -40,6 +40,13 @@ impl Misread {
             Misread::NoNumber => "a number from 0 to 4294967295 is wanted",
         }
     }
+}
+
+// Why, and at which word; at none where a number is missing behind the last.
+#[derive(Clone, Copy)]
+pub struct MisreadAt<'w> {
+    pub misread: Misread,
+    pub word: Option<&'w str>,
 }
 
 #[derive(Clone, Copy)]
@@ -92,6 +99,26 @@ impl Options {
             readings: None,
             awaited: None,
         }
+    }
+
+    // The options that the words come to.
+    pub fn read<'w>(words: &[&'w str]) -> Result<Options, MisreadAt<'w>>
+        ensures { result ≡ words_read no_options words.now }
+    {
+        let mut options = Options::new();
+        for word in words {
+            options = options.with_word(word).map_err(|misread| MisreadAt {
+                misread,
+                word: Some(*word),
+            })?;
+        }
+        if options.is_cut_off() {
+            return Err(MisreadAt {
+                misread: Misread::NoNumber,
+                word: None,
+            });
+        }
+        Ok(options)
     }
 
     // The options with one word more.

@@ -2,10 +2,8 @@
 ghost use Rattle.std.specs.Prelude.{◌≡◌, ◌-◌, min, take, length, unwrap_or, option_map, IfOk, MatchOption, IsTrue};
 ghost use Rattle.document.specs.Content.{Keeps};
 ghost use Rattle.document.specs.Snapshot.{seen, SameDesk};
-ghost use Rattle.editing.specs.Content.{document_measure};
-ghost use Rattle.measure.specs.Blank.{blank_measure};
 ghost use Rattle.session.specs.Asked.{asked as asked_by};
-ghost use Rattle.hosting.specs.Replies.{IsCall, IsNoCall, digits, written_of, Replies};
+ghost use Rattle.hosting.specs.Replies.{host_scale, IsCall, IsNoCall, digits, written_of, Replies};
 
 use crate::host::Host;
 use document::{Answer, Call, Desk, Document};
@@ -17,7 +15,8 @@ use report::{summarize, summary_text};
 use session::{Request, answer_text};
 use std::alloc::{AllocError, Global};
 
-// A due that never stands.
+// What PAINT is given where no due stands and none is told: it takes four numbers, and any four are refused there. Without
+// them that refusal would have to be written here, beside the one of the document.
 const NO_CHANGE: Change = Change {
     place: 0,
     removed: 0,
@@ -128,8 +127,8 @@ impl<G: Grammar> Host<'_, G> {
         desk: &mut Desk<Readings<()>>,
         request: &Request,
     ) -> Result<Option<Vec<u8>>, AllocError>
-        ensures replies { let a = G.meaning self.now.meter.now.first.grammar in let μ = document_measure a blank_measure in Keeps document.old μ → IfOk result (λ out. Replies a μ (asked_by request.now) (seen document.old desk.old) (seen document.new desk.new) (option_map (λ v. v.items) out)) }
-        ensures keeps { let μ = document_measure (G.meaning self.now.meter.now.first.grammar) blank_measure in Keeps document.old μ → Keeps document.new μ }
+        ensures replies { let μ = host_scale G.meaning self.now.meter.now in Keeps document.old μ → IfOk result (λ out. Replies (G.meaning self.now.meter.now.first.grammar) μ (asked_by request.now) (seen document.old desk.old) (seen document.new desk.new) (option_map (λ v. v.items) out)) }
+        ensures keeps { let μ = host_scale G.meaning self.now.meter.now in Keeps document.old μ → Keeps document.new μ }
         ensures lent { SameDesk desk.old desk.new }
     {
         let states = self.meter.first.grammar.count();

@@ -55,7 +55,8 @@ impl<R: BufRead, W: Write> Work for Session<'_, '_, '_, R, W> {
     }
 }
 
-// A session on a new document, under the pile and with the memory that the options say. Says whether every line could be read.
+// A session on a new document, under the pile and with the memory that the options say. Says whether every line could be read:
+// a yes or no, as `converse` gives it.
 pub fn run_session<R: BufRead, W: Write>(
     heap: Global,
     options: &Options,

@@ -11,30 +11,14 @@ use std::env;
 mod one_shot;
 mod refusal;
 
-// The options of a session, `[PILE] [SLOTS] [--screen N] [--store N] [--readings N]`.
-fn options_of(words: &[String]) -> Result<Options, Refusal<'_>> {
-    let mut options = Options::new();
-    for word in words {
-        let word = word.as_str();
-        options = options
-            .with_word(word)
-            .map_err(|misread| Refusal::Misread { word, misread })?;
-    }
-    if options.is_cut_off() {
-        return Err(Refusal::CutOff);
-    }
-    Ok(options)
-}
-
 fn main(rt: HostRuntime) -> anyhow::Result<()> {
     let words: Vec<String> = env::args(&rt)?.skip(1).collect(rt.alloc())?;
-    if words
-        .iter()
-        .any(|word| Task::named(word.as_str()).is_some())
-    {
+    let words: Vec<&str> = words.iter().map(|word| word.as_str()).collect(rt.alloc())?;
+    if words.iter().any(|word| Task::named(word).is_some()) {
         return report_on_input(&rt, &words);
     }
-    let options = told(&rt, options_of(&words))?;
+    // `[PILE] [SLOTS] [--screen N] [--store N] [--readings N]`
+    let options = told(&rt, Options::read(&words).map_err(Refusal::from))?;
     let all_read = run_session(rt.alloc(), &options, &mut rt.reader(), &mut rt.stdout())?;
     ensure!(all_read, "lines that cannot be read");
     Ok(())

@@ -89,16 +89,16 @@ fn pile_asked(before: Option<Pile>, word: &str) -> Result<Pile, Refusal<'_>> {
 }
 
 // Follows the words `[PILE] [--colour] [--show] [--measure] [--tree [SLOTS]]`.
-pub fn report_on_input(rt: &HostRuntime, words: &[String]) -> anyhow::Result<()> {
+pub fn report_on_input(rt: &HostRuntime, words: &[&str]) -> anyhow::Result<()> {
     let mut pile = None;
     let mut tasks = Vec::new(rt.alloc());
     let mut words = words.iter().peekable();
+    // No `for`: an option may take the word behind it too.
     while let Some(word) = words.next() {
-        let word = word.as_str();
         match Task::named(word) {
             Some(Task::Tree(most)) => {
-                let slots = match words.next_if(|next| begins_with_digit(next.as_str())) {
-                    Some(number) => told(rt, slots_asked(number.as_str()))?,
+                let slots = match words.next_if(|next| begins_with_digit(next)) {
+                    Some(number) => told(rt, slots_asked(number))?,
                     None => most,
                 };
                 tasks.push(Task::Tree(slots))?;

@@ -1,5 +1,5 @@
 // Why the program cannot do what it is asked for.
-use hosting::Misread;
+use hosting::{Misread, MisreadAt};
 use load::MOST;
 use report::NAMES;
 use std::fmt;
@@ -14,6 +14,18 @@ pub enum Refusal<'w> {
     TreeSize(&'w str),
     // The text needs more than so many slots.
     TooLong(u16),
+}
+
+impl<'w> From<MisreadAt<'w>> for Refusal<'w> {
+    fn from(at: MisreadAt<'w>) -> Refusal<'w> {
+        match at.word {
+            Some(word) => Refusal::Misread {
+                word,
+                misread: at.misread,
+            },
+            None => Refusal::CutOff,
+        }
+    }
 }
 
 impl fmt::Display for Refusal<'_> {
@@ -41,6 +53,7 @@ impl fmt::Display for Refusal<'_> {
 }
 
 impl Refusal<'_> {
+    // The last line on standard error: it names the kind alone, since the line before has told the rest.
     fn in_short(&self) -> &'static str {
         match self {
             Refusal::Misread { .. } | Refusal::CutOff => "words that cannot be followed",

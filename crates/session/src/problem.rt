@@ -18,6 +18,7 @@ pub enum Problem {
 }
 
 impl Problem {
+    // The text by itself, which takes no memory and no formatter; what is displayed is this.
     pub fn text(self) -> &'static str
         ensures { result.now ≡ problem_text self }
     {

@@ -6,7 +6,7 @@
 ghost use Rattle.std.specs.Prelude.{◌<◌, ◌≤◌, length};
 
 use anyhow::anyhow;
-use hosting::{Misread, Options, run_session};
+use hosting::{Options, run_session};
 use std::io::{Read, Write};
 use std::str;
 
@@ -33,28 +33,18 @@ fn first_line(text: &[u8]) -> (&[u8], &[u8]) {
     }
 }
 
-// The words behind `$ scene`.
-fn options_of(prompt: &str) -> Result<Options, Misread> {
-    let mut options = Options::new();
-    for word in prompt.split_whitespace().skip(2) {
-        options = options.with_word(word)?;
-    }
-    if options.is_cut_off() {
-        return Err(Misread::NoNumber);
-    }
-    Ok(options)
-}
-
 fn run(rt: &HostRuntime, session: &[u8]) -> anyhow::Result<()> {
     let (prompt, mut lines) = first_line(session);
     let Ok(prompt) = str::from_utf8(prompt) else {
         return Err(anyhow!("a prompt that is no text"));
     };
     println!(rt; "{prompt}")?;
-    let options = match options_of(prompt) {
+    // The words behind `$ scene`.
+    let words: Vec<&str> = prompt.split_whitespace().skip(2).collect(rt.alloc())?;
+    let options = match Options::read(&words) {
         Ok(options) => options,
-        Err(misread) => {
-            let text = misread.text();
+        Err(at) => {
+            let text = at.misread.text();
             return Ok(println!(rt; "{text}")?);
         }
     };

@@ -1,5 +1,5 @@
 // The calls of a document. A refused one changes nothing and gives back what it was given.
-ghost use Rattle.std.specs.Prelude.{◌≡◌, ℕ, ◌-◌, ◌≤◌, List, length, is_ok, IfOk, IfErr, if◌then◌else◌, None, OnErr, OnOk};
+ghost use Rattle.std.specs.Prelude.{◌≡◌, ℕ, ◌-◌, ◌≤◌, List, length, is_ok, IfOk, IfErr, IsOkAnd, MatchResult, if◌then◌else◌, Err, OnErr, OnOk};
 ghost use Rattle.std.specs.List.{between};
 ghost use Rattle.automaton.specs.Walk.{colours as colours_of};
 ghost use Rattle.chunks.specs.Tree.{Balanced};
@@ -23,6 +23,24 @@ use model::{Change, Refusal, Replacement};
 use slots::slot::Slot;
 use tree::ChunkTree;
 use walks::DocumentMeter;
+
+// What becomes of a token by how a call came out: one that was done takes it, a refused one gives it back.
+fn settle<T, U, B, E, F: FnOnce(T, B) -> U>(
+    outcome: Result<T, E>,
+    token: B,
+    done: F,
+) -> Result<U, Refused<B, E>>
+    requires { F.IsAlwaysCallable done }
+    ensures { MatchResult outcome (λ value. IsOkAnd result (F.post done value token)) (λ refusal. result ≡ Err (record { back = token; refusal = refusal })) }
+{
+    match outcome {
+        Ok(value) => Ok(done(value, token)),
+        Err(refusal) => Err(Refused {
+            back: token,
+            refusal,
+        }),
+    }
+}
 
 impl<'a, R: Copy> Document<'a, R> {
     // A document put together from lent memory: there is no text, and no slot is usable before OPEN.
@@ -49,16 +67,7 @@ impl<R: Copy> Document<'_, R> {
     pub fn close(&self, pass: Pass) -> Result<(), Refused<Pass>>
         ensures { given_back result ≡ close_refusal (model_of self.now) }
     {
-        match self.try_close() {
-            Ok(()) => {
-                let Pass { granted: () } = pass;
-                Ok(())
-            }
-            Err(refusal) => Err(Refused {
-                back: pass,
-                refusal,
-            }),
-        }
+        settle(self.no_due(), pass, |(), Pass { granted: () }| ())
     }
 
     // TEXT: the bytes of a range, at the front of a buffer.
@@ -118,16 +127,8 @@ impl<X: Copy> Document<'_, Readings<X>> {
         ensures keeps { let μ = scale_of G.meaning H.scale meter.now in Keeps self.old μ → Keeps self.new μ }
         ensures same { OnErr result (Unchanged self.old self.new) }
     {
-        match self.try_edit(meter, from, to, bytes) {
-            Ok(change) => {
-                let Pass { granted: () } = pass;
-                Ok(Due { change })
-            }
-            Err(refusal) => Err(Refused {
-                back: pass,
-                refusal,
-            }),
-        }
+        let edited = self.try_edit(meter, from, to, bytes);
+        settle(edited, pass, |change, Pass { granted: () }| Due { change })
     }
 
     // PAINT brings a screen up to date with a change and gives the next pass.
@@ -143,13 +144,8 @@ impl<X: Copy> Document<'_, Readings<X>> {
         ensures painted { OnOk result (Keeps self.old (scale_of G.meaning H.scale meter.now) → screen.new ≡ painted (G.meaning meter.now.first.grammar) (text_of self.old) due.change screen.old) }
         ensures same { IfErr result (λ f. (f.back ≡ due) × (Unchanged self.old self.new × (screen.new ≡ screen.old))) }
     {
-        match self.try_paint(meter, due.change, screen) {
-            Ok(()) => {
-                let Due { change: _ } = due;
-                Ok(Pass { granted: () })
-            }
-            Err(refusal) => Err(Refused { back: due, refusal }),
-        }
+        let painted = self.try_paint(meter, due.change, screen);
+        settle(painted, due, |(), Due { change: _ }| Pass { granted: () })
     }
 
     // SCRIPT carries the records of a list out, one after another: each is an edit and its painting. It says how many it did.
@@ -167,13 +163,8 @@ impl<X: Copy> Document<'_, Readings<X>> {
         ensures keeps { let μ = scale_of G.meaning H.scale meter.now in Keeps self.old μ → Keeps self.new μ }
         ensures records { let μ = scale_of G.meaning H.scale meter.now in (buffer : List ℕ) (reading : _) → Keeps self.old μ → RecordByRecord (G.meaning meter.now.first.grammar) (λ s. Keeps s.document μ) text.now records.now (record { document = self.old; screen = screen.old; buffer = buffer; reading = reading }) (record { document = self.new; screen = screen.new; buffer = buffer; reading = reading }) }
     {
-        match self.try_script(meter, screen, records, text) {
-            Ok(done) => Ok((done, pass)),
-            Err(refusal) => Err(Refused {
-                back: pass,
-                refusal,
-            }),
-        }
+        let scripted = self.try_script(meter, screen, records, text);
+        settle(scripted, pass, |done, pass| (done, pass))
     }
 
     // COLOURS: the classes of a range's bytes, at the front of a buffer.

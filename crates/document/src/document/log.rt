@@ -31,6 +31,7 @@ impl<R: Copy> Document<'_, R> {
         ensures answer { result ≡ answered (range_refusal (model_of self.now) from to (min room (length buffer.old))) tt }
         ensures written { buffer.new ≡ (if is_ok result then with_front (between from to (text_of self.now)) buffer.old else buffer.old) }
     {
+        // The same line stands in `colours_within`: a function that lends the front would need a clause about the loan, which is longer.
         let cells = room.min(buffer.len());
         self.text(from, to, &mut buffer[..cells])
     }
@@ -86,7 +87,7 @@ impl<X: Copy> Document<'_, Readings<X>> {
             Call::Script { records, text } => self
                 .try_script(meter, desk.screen, records, text)
                 .map_or_else(Answer::RecordRefused, Answer::Done),
-            Call::Close => told(self.try_close(), |()| Answer::Closed),
+            Call::Close => told(self.no_due(), |()| Answer::Closed),
             Call::Text { from, to, room } => {
                 told(self.text_within(from, to, room, desk.buffer), written)
             }

@@ -26,9 +26,7 @@ impl<R: Copy> Document<'_, R> {
     fn may_take(&self, cells: usize, text: &[u8], replacement: Replacement) -> Result<(), Refusal>
         ensures { refusal_in result ≡ record_refusal cells text.now (model_of self.now) replacement }
     {
-        if let Some(due) = self.due {
-            return Err(Refusal::DueStands(due.place as u64));
-        }
+        self.no_due()?;
         if replacement.start > replacement.end || replacement.end as usize > text.len() {
             return Err(Refusal::OutsidePart(replacement.end as u64));
         }

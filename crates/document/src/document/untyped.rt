@@ -50,7 +50,8 @@ impl<R: Copy> Document<'_, R> {
         Ok(())
     }
 
-    pub(crate) fn try_close(&self) -> Result<(), Refusal>
+    // Whether no due stands: all that CLOSE asks, and what EDIT and SCRIPT ask first.
+    pub(crate) fn no_due(&self) -> Result<(), Refusal>
         ensures { result ≡ answered (close_refusal (model_of self.now)) tt }
     {
         match self.due {
@@ -75,9 +76,7 @@ impl<X: Copy> Document<'_, Readings<X>> {
         ensures keeps { let μ = scale_of G.meaning H.scale meter.now in Keeps self.old μ → Keeps self.new μ }
         ensures same { OnErr result (Unchanged self.old self.new) }
     {
-        if let Some(due) = self.due {
-            return Err(Refusal::DueStands(due.place as u64));
-        }
+        self.no_due()?;
         let Edited { change, lost } = apply_edit(&mut self.tree, meter, from, to, bytes)?;
         self.lines = self.lines - lost + line_ends_of(bytes) as u32;
         self.due = Some(change);

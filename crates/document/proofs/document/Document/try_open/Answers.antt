@@ -2,8 +2,7 @@ use Rattle.std.proofs.Common.{◌≡◌, true, is_ok, [], sym, ap, ◌∙◌}
 use Rattle.std.specs.Prelude.{Ok, Err, Result, OnOk}
 use Rattle.std.proofs.lemmas.Bool.{cond-true, false≢true}
 use Rattle.tree.specs.declared.lent.Lent.{Lent}
-use Rattle.tree.specs.Public.{chunks_now, usable_of, lent_to, preparable}
-use Rattle.model.specs.Calls.{answered}
+use Rattle.tree.specs.Public.{chunks_now, preparable}
 use Rattle.document.proofs.Opening.{can_prepare, still_counted, still_fits}
 use Rattle.document.proofs.document.Document.try_open.Goals as goal
 
@@ -21,25 +20,10 @@ invariant_of-self g c =
     let none = c.prepare.ensures.chunks ∙ cond-true (is_ok c.prepare.result) [] (chunks_now T) done in
     record { counted = still_counted T self.due c.args.states passes c.prepare.new.self self.lines none self.counted; fitting = still_fits T self.due c.args.states passes c.prepare.new.self none self.fitting }
 
-pub returns : goal.returns
-returns g c =
+pub returns-clause-keeps : goal.returns-clause-keeps
+returns-clause-keeps g c μ kept =
     let self = c.args.self.now in
     let T = self.tree in
     let passes = sym c.in_ok-may_open.ensures in
     let done : is_ok c.prepare.result ≡ true = c.prepare.ensures.done ∙ ap (λ (l : Lent). preparable T l.slots) c.lent-slots.ensures ∙ can_prepare T self.due c.args.states passes in
-    let none = c.prepare.ensures.chunks ∙ cond-true (is_ok c.prepare.result) [] (chunks_now T) done in
-    let all : usable_of c.prepare.new.self ≡ (lent_to T).slots = c.prepare.ensures.usable ∙ cond-true (is_ok c.prepare.result) c.lent-slots.result.slots (usable_of T) done ∙ ap (λ (l : Lent). l.slots) c.lent-slots.ensures in
-    let lent = c.prepare.ensures.lent in
-    record {
-      answer = sym (ap (λ o. answered o tt) passes);
-      after = λ z. record {
-        slots = (lent z).slots;
-        store = (lent z).store;
-        readings = (lent z).readings;
-        usable = all z;
-        chunks = none z;
-        due = self.due;
-      };
-      keeps = λ μ _. on_done c.prepare.result done c.prepare.ensures.keeps μ;
-      same = tt;
-    }
+    on_done c.prepare.result done c.prepare.ensures.keeps μ

@@ -4,9 +4,7 @@ use Rattle.std.specs.Prelude.{length, Option}
 use Rattle.session.specs.Asked.{asked}
 use Rattle.document.specs.Content.{model_of}
 use Rattle.document.specs.Snapshot.{seen}
-use Rattle.editing.specs.Content.{document_measure}
-use Rattle.measure.specs.Blank.{blank_measure}
-use Rattle.hosting.specs.Replies.{IsCall}
+use Rattle.hosting.specs.Replies.{host_scale, IsCall}
 use Rattle.hosting.proofs.Replying.{carried}
 use Rattle.hosting.proofs.host.Host.reply.Goals as goal
 
@@ -20,7 +18,7 @@ returns-in_ok-answer_of-in-Some-clause-replies g c keeps =
     let r = asked c.args.request.now in
     let by_states : IsCall a.count c.standing-standing.result cells r call = subst (λ n. IsCall n c.standing-standing.result cells r call) c.count-states.ensures c.in-Some.ensures in
     let is : IsCall a.count m.due cells r call = subst (λ (o : Option Change). IsCall a.count o cells r call) c.standing-standing.ensures by_states in
-    carried a (document_measure a blank_measure) r _ _ _ a.count m.due cells call is (record {
+    carried a (host_scale g.G.Grammar.meaning self.meter.now) r _ _ _ a.count m.due cells call is (record {
       entry = record { call = call; answer = c.perform-answer.result; after = seen c.perform-answer.new.self c.perform-answer.new.desk };
       is_call = is;
       obeys = c.perform-answer.ensures.obeys keeps;
