@@ -8,10 +8,11 @@ use crate::options::Options;
 use crate::piles::{Work, with_pile};
 use document::{Desk, Document};
 use grammar::Grammar;
-use load::room::{UNREAD, UNUSED};
+use load::{Room, UNREAD};
 use meter::Blank;
 use std::alloc::Global;
 use std::io::{BufRead, Result, Write};
+use tree::Lent;
 use walks::document_meter;
 
 // How many cells the buffer has: as many as the longest text has bytes.
@@ -35,13 +36,16 @@ impl<R: BufRead, W: Write> Work for Session<'_, '_, '_, R, W> {
     fn run<G: Grammar + Copy>(&mut self, grammar: &G) -> Result<bool> {
         let meter = document_meter(*grammar, Blank);
         let heap = self.heap;
-        let mut slots = vec![in heap; UNUSED; self.options.slots()]?;
-        let mut store = vec![in heap; 0; self.options.store()]?;
-        let mut readings = vec![in heap; UNREAD; self.options.readings()]?;
+        let lent = Lent {
+            slots: self.options.slots(),
+            store: self.options.store(),
+            readings: self.options.readings(),
+        };
+        let mut room = Room::new(heap, lent)?;
         let mut screen = vec![in heap; 0; self.options.screen()]?;
         let mut buffer = vec![in heap; 0; BUFFER]?;
         let mut reading = UNREAD;
-        let mut document = Document::new(&mut slots, &mut store, &mut readings);
+        let mut document = Document::new(&mut room.slots, &mut room.store, &mut room.readings);
         let mut desk = Desk {
             screen: &mut screen,
             buffer: &mut buffer,

@@ -1,4 +1,5 @@
 use Rattle.std.proofs.Common.{◌≡◌, ℕ, length, replicate, refl, ap, ◌∙◌}
+use Rattle.std.proofs.lemmas.List.{length-replicate}
 use Rattle.std.proofs.lemmas.Result.{IfOk-weaker}
 use Rattle.editing.specs.Content.{document_measure}
 use Rattle.measure.specs.Blank.{blank_measure}
@@ -18,9 +19,10 @@ returns g c =
     let a = g.G.Grammar.meaning c.document_meter-meter.result.first.grammar in
     let μ = document_measure a blank_measure in
     let document = c.new-document.result in
-    let slots : length c.deref_mut.result.now ≡ slots_lent o = c.deref_mut.ensures.len ∙ c.in_ok-slots.ensures.len ∙ c.slots.ensures.is in
-    let store : length c.deref_mut-2.result.now ≡ store_lent o = c.deref_mut-2.ensures.len ∙ c.in_ok-store.ensures.len ∙ c.store.ensures in
-    let readings : length c.deref_mut-3.result.now ≡ readings_lent o = c.deref_mut-3.ensures.len ∙ c.in_ok-readings.ensures.len ∙ c.readings.ensures in
+    let room = c.in_ok-room.ensures in
+    let slots : length c.deref_mut.result.now ≡ slots_lent o = ap length (c.deref_mut.ensures.value ∙ room.slots_are) ∙ length-replicate _ _ ∙ c.slots.ensures.is in
+    let store : length c.deref_mut-2.result.now ≡ store_lent o = ap length (c.deref_mut-2.ensures.value ∙ room.store_is) ∙ length-replicate _ _ ∙ c.store.ensures in
+    let readings : length c.deref_mut-3.result.now ≡ readings_lent o = ap length (c.deref_mut-3.ensures.value ∙ room.readings_are) ∙ length-replicate _ _ ∙ c.readings.ensures in
     let made : model_of document ≡ model_lent o = c.new-document.ensures.is ∙ new_models slots store readings in
     let zeros : c.in_ok-screen.screen.items ≡ replicate c.screen.result 0 = search (c.in_ok-screen.ensures.items_if_clones_equal (λ y e. e)) in
     let cells : c.screen.result ≡ cells_lent o = c.screen.ensures in
