@@ -4,7 +4,7 @@ use crate::slot::Slot;
 // Slots name each other by number, and are no boxes: the memory is lent, and there is no heap.
 // Slots, store and readings are three slices, and not one of structs, as a host lends them so.
 // What memory holds is said in clauses (`Held`, `Ready`, `Whole`), and no value keeps it: two trees lie in one memory while one is cut or joined,
-// so that no value of memory says which is meant, or which slot (`Usable`).
+// and nothing in memory says which of them is meant, or which slot (`Usable`).
 #[derive(Drop)]
 pub struct Memory<'a, R> {
     pub slots: &'a mut [Slot<R>],
