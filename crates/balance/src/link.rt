@@ -24,6 +24,8 @@ pub fn extent<R: Copy>(memory: &Memory<R>, link: Option<u16>) -> Extent
 }
 
 // The reading of all that lies left, in slot `i` and right.
+// Here and below, `left`, `i` and `right` stay parameters: though `link` hands them on as they are,
+// in a struct each clause would say `place.left`, `place.i` and `place.right`.
 fn reading_of<R: Copy, M: Meter<Reading = R>>(
     meter: &M,
     memory: &Memory<R>,

@@ -13,6 +13,7 @@ use meter::Meter;
 use slots::memory::Memory;
 
 // Takes the chunks from `from` up to `to` out and gives their slots back; gives what lies before and behind them.
+// Here and in `exchange`, `from` and `to` stay parameters: the tree's `replace` is given them apart, and in a struct clauses would say `run.from` and `run.to`.
 pub fn remove<R: Copy, M: Meter<Reading = R>>(
     meter: &M,
     memory: &mut Memory<R>,

@@ -3,5 +3,6 @@
 
 #![tactic(auto)]
 
-// Meter and memory go as two parameters: as one value, each clause would say `self.old.memory.now` for `memory.old`.
+// Meter and memory go as two parameters: as one value, each clause would say `self.old.memory.now` for `memory.old`;
+// a link stays a third, as a tree and its parts lie in one memory, and it says which.
 pub mod rewrite;

@@ -31,12 +31,13 @@ fn renew<R: Copy, M: Meter<Reading = R>>(
     requires few_chunks { from + cut.now.count < 2 ^ 64 }
     ensures { Renewed (M.scale meter.now) memory.old i n cut.now.bytes.now cut.now.count from (from + cut.now.count) memory.new }
 {
-    if n < from || from + cut.count <= n {
-        return;
+    if let Some(k) = n.checked_sub(from)
+        && k < cut.count
+    {
+        let new = cut.chunk(k);
+        let own = meter.measure(new);
+        write(memory, i, new, own);
     }
-    let new = cut.chunk(n - from);
-    let own = meter.measure(new);
-    write(memory, i, new, own);
 }
 
 // Writes the chunks over those of the run from `from` on, in a tree whose first chunk is in place `n`.

@@ -196,3 +196,7 @@ module _ (a : Automaton) (lawful : Lawful a) (text : List ℕ) where
   pub lost_over_long : None ≡ reading (walk_measure a) text → (state : Option Traced) → forwards (trace_on a) state text ≡ None
   lost_over_long none None = stays_lost a text
   lost_over_long none (Some from) = let over = overlong_told a lawful text none in gets_lost a text from.read from.state (omega arith)
+
+  pub lost_unless_traced : (o : Option Passage) → o ≡ reading (walk_measure a) text → (state : Option Traced) (from : Traced) → state ≡ Some from → ((p : Passage) → o ≡ Some p → longest - from.read < p.length) → forwards (trace_on a) state text ≡ None
+  lost_unless_traced None is state from comes over = lost_over_long is state
+  lost_unless_traced (Some p) is state from comes over = lost_over_text p (sym is) state from comes (over p refl)

@@ -14,10 +14,7 @@ fn deeper(depth: u32) -> Option<u32>
 fn shallower(depth: u32) -> Option<u32>
     ensures { result ≡ shallower depth }
 {
-    if depth <= 1 {
-        return None;
-    }
-    Some(depth - 1)
+    depth.checked_sub(1).filter(|left| *left > 0)
 }
 
 // From left to right over a byte.

@@ -6,7 +6,7 @@ use crate::backward::Backward;
 use crate::stops::ran_through;
 use search::stop::Stop;
 
-// The forward state behind the bytes.
+// The forward state behind the bytes: `grammar::walk` of a search. Nothing here calls it; it is for those who have bytes and no readings.
 pub fn ahead_of_bytes<S: Backward>(search: &S, state: S::Fore, bytes: &[u8]) -> S::Fore
     ensures { result ≡ forwards (S.fore search.now) state bytes.now }
 {

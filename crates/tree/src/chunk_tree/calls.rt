@@ -44,6 +44,8 @@ impl<'a, R: Copy> ChunkTree<'a, R> {
     }
 
     // The lowest part in which lies all of a range, and the range counted in it.
+    // `from` and `to` stay parameters, here and below: a struct of places (u32) or of chunks (u16) would be made at nearly every call,
+    // and clauses would say `span.from`. A `Span` is made of them here, once for three.
     fn part(&self, from: u32, to: u32) -> (Subtree<'_, 'a, R>, Span)
         ensures bytes { within result.1 (text_under result.0) ≡ between from to (joined (chunks_now self.now)) }
         ensures keeps { (μ : Measure R) → KeptBy self.now μ → KeptUnder result.0 μ }
