@@ -76,11 +76,10 @@ impl<G: Grammar> Walk<G> {
         requires { length bytes.now ≤ longest }
         ensures { result ≡ rows (λ s. entry (G.Grammar.meaning self.now.grammar) s bytes.now) }
     {
+        let count = self.grammar.count() as usize;
         let mut entries = still_rows();
-        // With `array::from_fn`, which would ask of each of the 64 states whether it is the grammar's, the walks take a fifth longer;
-        // no `zip` or `enumerate`, as nothing is known of what is written through an adapter of `iter_mut`.
-        for s in 0..self.grammar.count() {
-            entries[s as usize] = self.walk_from(s, bytes);
+        for entry in entries[..count].iter_mut() {
+            *entry = self.walk_from(entry.end, bytes);
         }
         entries
     }
