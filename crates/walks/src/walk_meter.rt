@@ -78,6 +78,7 @@ impl<G: Grammar> Walk<G> {
     {
         let count = self.grammar.count() as usize;
         let mut entries = still_rows();
+        // An entry that stands still ends in the state of which it is.
         for entry in entries[..count].iter_mut() {
             *entry = self.walk_from(entry.end, bytes);
         }
