@@ -6,6 +6,7 @@ ghost use Rattle.model.specs.Calls.{answered, change_refusal};
 ghost use Rattle.tree.specs.Public.{chunks_now};
 ghost use Rattle.editing.specs.Content.{text_in, model_in};
 
+use crate::range::in_text;
 use model::{Refusal, Run};
 use tree::ChunkTree;
 
@@ -108,15 +109,13 @@ fn affected<R: Copy>(tree: &ChunkTree<R>, from: u32, to: u32, count: usize) -> R
 }
 
 // The chunks that an edit replaces, or why the tree refuses it.
-#[tactic(auto, using(model::proofs::Runs::covers_affected))]
+#[tactic(auto, using(model::proofs::Runs::covers_affected, crate::proofs::Short::text_short))]
 pub fn plan<R: Copy>(tree: &ChunkTree<R>, from: u32, to: u32, bytes: &[u8]) -> Result<Run, Refusal>
     ensures is { result ≡ answered (change_refusal (model_in tree.now None) from to bytes.now) (affected_by (chunks_now tree.now) from to (length bytes.now)) }
     ensures short { IfOk result (λ run. middle_length run from to (length bytes.now) ≤ 1152) }
     ensures few { OnOk result (length (text_in tree.now) ≤ 262144) }
 {
-    if from > to || to > tree.bytes() {
-        return Err(Refusal::OutsideText(to as u64));
-    }
+    in_text(tree, from, to)?;
     if bytes.len() > MOST_NEW {
         return Err(Refusal::TooManyBytes(bytes.len() as u64));
     }

@@ -1,5 +1,6 @@
 // The partner of a bracket, by the readings of the document's meter.
 // Here and in position.rt the tree and its meter stay two parameters: in a struct each clause would read `self.now.tree.now` for `tree.now`.
+// `KeptBy tree μ` is a premise and no ghost field: a call may be given another meter than the tree was kept by, and what holds then is promised without it.
 ghost use Rattle.std.specs.Prelude.{◌≡◌, ℕ, ◌<◌, ◌≤◌, length, take, drop, IfOk, if◌then◌else◌, Some, None, nat_lt, slice_index};
 ghost use Rattle.automaton.specs.declared.role.BracketKind.{BracketKind};
 ghost use Rattle.automaton.specs.declared.role.Role.TheVariants.{Opening, Closing};
