@@ -12,7 +12,7 @@ use Rattle.model.proofs.Editing.{between_drop, edit_leaves_text}
 use Rattle.tree.specs.declared.chunk_tree.ChunkTree.{ChunkTree}
 use Rattle.editing.specs.Content.{text_in, model_in}
 use Rattle.editing.proofs.Planning.{was_allowed}
-use Rattle.lookup.proofs.Short.{text_short}
+use Rattle.editing.proofs.Short.{text_short}
 
 pub record Recounted (lines lost gained after : ℕ) : Type 0 where
   pub enough : lost ≤ lines

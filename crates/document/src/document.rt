@@ -15,7 +15,7 @@ pub mod script;
 pub mod untyped;
 
 // It holds no meter: each call is given one, and may be given another. A range is two numbers, as in the rules: what is no range of
-// the text is given too, and std's Range is not Copy.
+// the text is given too, and refused with its second number, and in a struct each clause would read `span.from span.to`.
 #[derive(Drop)]
 pub struct Document<'a, R> {
     tree: ChunkTree<'a, R>,

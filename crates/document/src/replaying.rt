@@ -15,6 +15,7 @@ use walks::DocumentMeter;
 
 // Carries out as many of the calls as there is room for answers, on a document made of the lent memory, and says how many that
 // is. The log of these calls is lawful, whatever the calls are.
+// Slots, store and readings are apart, as a host lends them: each has a length of its own, which OPEN looks at.
 pub fn replay<X: Copy, G: Grammar, H: Meter<Reading = X>>(
     meter: &DocumentMeter<G, H>,
     slots: &mut [Slot<Readings<X>>],

@@ -1,4 +1,5 @@
 pub mod Apart
+pub mod Short
 pub mod Planning
 pub mod Applying
 pub mod Showing

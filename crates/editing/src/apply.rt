@@ -1,5 +1,4 @@
 // An edit carried out on the tree.
-// `from`, `to` and the new bytes stay apart, as in the definitions: in a struct each clause would read `edit.from edit.to edit.bytes.now`.
 ghost use Rattle.std.specs.Prelude.{◌≡◌, ℕ, ◌+◌, ◌-◌, ◌<◌, ◌≤◌, length, take, IfOk, None, OnErr};
 ghost use Rattle.std.specs.List.{between};
 ghost use Rattle.measure.specs.Place.{line_ends};

@@ -1,11 +1,12 @@
 // Which chunks an edit replaces, and whether it can be done.
-ghost use Rattle.std.specs.Prelude.{◌≡◌, ℕ, ◌+◌, ◌-◌, ◌^◌, ◌<◌, ◌≤◌, List, length, IfOk, None, OnOk};
+ghost use Rattle.std.specs.Prelude.{◌≡◌, ℕ, ◌+◌, ◌-◌, ◌<◌, ◌≤◌, List, length, IfOk, None, OnOk};
 ghost use Rattle.chunks.specs.SizedSpot.{sized_spot_in};
 ghost use Rattle.model.specs.Edit.{run_of, touched as touched_by, middle_length, with_neighbour as neighbour_taken, affected as affected_by};
 ghost use Rattle.model.specs.Calls.{answered, change_refusal};
 ghost use Rattle.tree.specs.Public.{chunks_now};
 ghost use Rattle.editing.specs.Content.{text_in, model_in};
 
+use crate::range::in_text;
 use model::{Refusal, Run};
 use tree::ChunkTree;
 
@@ -16,11 +17,10 @@ const MOST_NEW: usize = 1024;
 const ENOUGH: usize = 32;
 
 // The chunks from that of byte `low` to that of byte `high`.
-#[tactic(auto, using(crate::proofs::Planning::spots_tell, crate::proofs::Planning::spot_inside))]
+#[tactic(auto, using(crate::proofs::Planning::spots_tell, crate::proofs::Planning::spot_inside, crate::proofs::Short::text_short))]
 fn run_between<R: Copy>(tree: &ChunkTree<R>, low: u32, high: u32) -> Run
     requires ordered { low ≤ high }
     requires within { high < length (text_in tree.now) }
-    requires short { length (text_in tree.now) < 2 ^ 32 }
     ensures { result ≡ run_of (chunks_now tree.now) (sized_spot_in (chunks_now tree.now) low).chunk ((sized_spot_in (chunks_now tree.now) high).chunk + 1) }
 {
     let first = tree.sized_spot(low);
@@ -60,7 +60,6 @@ fn with_neighbour<R: Copy>(tree: &ChunkTree<R>, run: Run) -> Run
     requires is { run ≡ run_of (chunks_now tree.now) run.first run.last }
     requires ordered { run.first ≤ run.last }
     requires known { run.last ≤ length (chunks_now tree.now) }
-    requires short { length (text_in tree.now) < 2 ^ 32 }
     ensures { result ≡ neighbour_taken (chunks_now tree.now) run }
 {
     if run.last < tree.chunks() {
@@ -97,7 +96,6 @@ fn middle_length_of(run: Run, from: u32, to: u32, count: usize) -> usize
 fn affected<R: Copy>(tree: &ChunkTree<R>, from: u32, to: u32, count: usize) -> Run
     requires forward { from ≤ to }
     requires inside { to ≤ length (text_in tree.now) }
-    requires short { length (text_in tree.now) < 2 ^ 32 }
     requires few { count ≤ 1024 }
     ensures { result ≡ affected_by (chunks_now tree.now) from to count }
 {
@@ -111,15 +109,13 @@ fn affected<R: Copy>(tree: &ChunkTree<R>, from: u32, to: u32, count: usize) -> R
 }
 
 // The chunks that an edit replaces, or why the tree refuses it.
-#[tactic(auto, using(model::proofs::Runs::covers_affected))]
+#[tactic(auto, using(model::proofs::Runs::covers_affected, crate::proofs::Short::text_short))]
 pub fn plan<R: Copy>(tree: &ChunkTree<R>, from: u32, to: u32, bytes: &[u8]) -> Result<Run, Refusal>
     ensures is { result ≡ answered (change_refusal (model_in tree.now None) from to bytes.now) (affected_by (chunks_now tree.now) from to (length bytes.now)) }
     ensures short { IfOk result (λ run. middle_length run from to (length bytes.now) ≤ 1152) }
     ensures few { OnOk result (length (text_in tree.now) ≤ 262144) }
 {
-    if from > to || to > tree.bytes() {
-        return Err(Refusal::OutsideText(to as u64));
-    }
+    in_text(tree, from, to)?;
     if bytes.len() > MOST_NEW {
         return Err(Refusal::TooManyBytes(bytes.len() as u64));
     }

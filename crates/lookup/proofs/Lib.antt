@@ -1,2 +1,1 @@
-pub mod Short
 pub mod Found

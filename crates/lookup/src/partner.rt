@@ -1,9 +1,9 @@
 // The partner of a bracket, by the readings of the document's meter.
 // Here and in position.rt the tree and its meter stay two parameters: in a struct each clause would read `self.now.tree.now` for `tree.now`.
+// `KeptBy tree μ` is a premise and no ghost field: a call may be given another meter than the tree was kept by, and what holds then is promised without it.
 ghost use Rattle.std.specs.Prelude.{◌≡◌, ℕ, ◌<◌, ◌≤◌, length, take, drop, IfOk, if◌then◌else◌, Some, None, nat_lt, slice_index};
 ghost use Rattle.automaton.specs.declared.role.BracketKind.{BracketKind};
 ghost use Rattle.automaton.specs.declared.role.Role.TheVariants.{Opening, Closing};
-ghost use Rattle.measure.specs.Bounded.{longest};
 ghost use Rattle.search.specs.Forwards.{stop};
 ghost use Rattle.search.specs.Backwards.{back_stop};
 ghost use Rattle.brackets.specs.Partner.{kind_of, role_at, partner_ahead, partner_behind, told, partner};
@@ -94,13 +94,13 @@ fn search_behind<X: Copy, G: Grammar, H: Meter<Reading = X>>(
 }
 
 // The partner of an opening: where the search from behind it stops.
+#[tactic(auto, using(editing::proofs::Short::text_short))]
 fn partner_ahead<X: Copy, G: Grammar, H: Meter<Reading = X>>(
     tree: &ChunkTree<Readings<X>>,
     meter: &DocumentMeter<G, H>,
     place: u32,
 ) -> Option<u32>
     requires within { place < length (text_in tree.now) }
-    requires short { length (text_in tree.now) ≤ longest }
     ensures { KeptBy tree.now (scale_of G.meaning H.scale meter.now) → (kind : BracketKind) → role_at (G.meaning meter.now.first.grammar) (text_in tree.now) place ≡ Opening kind → result ≡ partner_ahead (G.meaning meter.now.first.grammar) (text_in tree.now) place }
 {
     let behind = place + 1;
@@ -115,7 +115,6 @@ fn partner_behind<X: Copy, G: Grammar, H: Meter<Reading = X>>(
     meter: &DocumentMeter<G, H>,
     place: u32,
 ) -> Option<u32>
-    requires short { length (text_in tree.now) ≤ longest }
     ensures { KeptBy tree.now (scale_of G.meaning H.scale meter.now) → (kind : BracketKind) → role_at (G.meaning meter.now.first.grammar) (text_in tree.now) place ≡ Closing kind → result ≡ partner_behind (G.meaning meter.now.first.grammar) (text_in tree.now) place }
 {
     let found = search_behind(tree, meter, place);

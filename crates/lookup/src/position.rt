@@ -46,7 +46,7 @@ pub fn place_of<X: Copy, G: Grammar, H: Meter<Reading = X>>(
 }
 
 // The last place of a line that is not past a column, where the text has the line.
-#[tactic(auto, using(locate::proofs::Spots::column_comes_to_spot, crate::proofs::Short::text_short))]
+#[tactic(auto, using(locate::proofs::Spots::column_comes_to_spot, editing::proofs::Short::text_short))]
 pub fn spot_at<X: Copy, G: Grammar, H: Meter<Reading = X>>(
     tree: &ChunkTree<Readings<X>>,
     meter: &DocumentMeter<G, H>,

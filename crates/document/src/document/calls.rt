@@ -44,6 +44,7 @@ fn settle<T, U, B, E, F: FnOnce(T, B) -> U>(
 
 impl<'a, R: Copy> Document<'a, R> {
     // A document put together from lent memory: there is no text, and no slot is usable before OPEN.
+    // The three are apart, as a host lends them: each has a length of its own, which OPEN looks at.
     pub fn new(
         slots: &'a mut [Slot<R>],
         store: &'a mut [u8],

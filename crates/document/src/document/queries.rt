@@ -10,7 +10,7 @@ ghost use Rattle.document.specs.Content.{model_of, text as text_of, Keeps};
 
 use crate::document::Document;
 use brackets::Partner;
-use editing::Readings;
+use editing::{Readings, in_text};
 use grammar::Grammar;
 use lookup::{partner_of, place_of, spot_at};
 use meter::Meter;
@@ -83,9 +83,7 @@ impl<X: Copy> Document<'_, Readings<X>> {
         ensures written { let μ = scale_of G.meaning H.scale meter.now in OnOk result (Keeps self.now μ → out.new ≡ reading_of μ (between from to (text_of self.now))) }
         ensures same { OnErr result (out.new ≡ out.old) }
     {
-        if from > to || to > self.tree.bytes() {
-            return Err(Refusal::OutsideText(to as u64));
-        }
+        in_text(&self.tree, from, to)?;
         *out = self.tree.reading(meter, from, to);
         Ok(())
     }

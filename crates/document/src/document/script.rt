@@ -77,9 +77,8 @@ impl<X: Copy> Document<'_, Readings<X>> {
         ensures records { let μ = scale_of G.meaning H.scale meter.now in (buffer : List ℕ) (reading : _) → Keeps self.old μ → RecordByRecord (G.meaning meter.now.first.grammar) (λ s. Keeps s.document μ) text.now records.now (record { document = self.old; screen = screen.old; buffer = buffer; reading = reading }) (record { document = self.new; screen = screen.new; buffer = buffer; reading = reading }) }
     {
         for (index, record) in records.iter().enumerate() {
-            if let Err(refusal) = self.take_record(meter, screen, text, *record) {
-                return Err(RecordRefusal { index, refusal });
-            }
+            self.take_record(meter, screen, text, *record)
+                .map_err(|refusal| RecordRefusal { index, refusal })?;
         }
         Ok(records.len())
     }

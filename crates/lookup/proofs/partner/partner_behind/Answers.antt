@@ -1,7 +1,6 @@
-use Rattle.editing.specs.Content.{text_in}
 use Rattle.lookup.proofs.Found.{behind}
 use Rattle.lookup.proofs.partner.partner_behind.Goals as goal
 
 pub returns : goal.returns
 returns g c kept kind is =
-    behind (g.G.Grammar.meaning c.args.meter.now.first.grammar) (text_in c.args.tree.now) c.args.place kind c.requires.short is c.search_behind-found.result (c.search_behind-found.ensures.finds kept) c.then_some.result c.saturating_sub.result c.then_some.ensures c.saturating_sub.ensures
+    behind c.args.tree.now (g.G.Grammar.meaning c.args.meter.now.first.grammar) c.args.place kind is c.search_behind-found.result (c.search_behind-found.ensures.finds kept) c.then_some.result c.saturating_sub.result c.then_some.ensures c.saturating_sub.ensures

@@ -2,7 +2,7 @@ use Rattle.std.proofs.Common.{◌≡◌, ◌≤◌, length, None, sym, subst, ar
 use Rattle.model.specs.Model.{text_of}
 use Rattle.model.specs.Calls.{edited, paint_refusal}
 use Rattle.document.specs.Content.{model_of}
-use Rattle.lookup.proofs.Short.{text_short}
+use Rattle.editing.proofs.Short.{text_short}
 use Rattle.document.proofs.Waiting.{due_painted}
 use Rattle.typing.proofs.Scene.edit.Goals as goal
 

@@ -9,4 +9,4 @@ abbrev pub invariant-loop-index : goal.invariant-loop-index
 invariant-loop-index g l =
     let a = g.G.Grammar.meaning l.meter.first.grammar in
     let μ = document_measure a (g.H.Meter.scale l.meter.second.second) in
-    Onward (length l.initial.screen) l.text l.records l.index (model_of l.initial.self) (model_of l.self) × (Keeps l.initial.self μ → Stepped a μ l.text l.records l.index l.initial.self l.initial.screen l.self l.screen)
+    Onward (length l.initial.screen) l.text l.records l.index-counter (model_of l.initial.self) (model_of l.self) × (Keeps l.initial.self μ → Stepped a μ l.text l.records l.index-counter l.initial.self l.initial.screen l.self l.screen)
