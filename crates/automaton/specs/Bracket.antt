@@ -3,12 +3,13 @@
 use Rattle.std.specs.Prelude.{◌≡◌, ℕ, cond, ◌==◌}
 use Rattle.automaton.specs.Automaton.{Automaton}
 use Rattle.automaton.specs.Class.{mark}
+use Rattle.automaton.specs.declared.role.BracketKind.{BracketKind}
 use Rattle.automaton.specs.declared.role.BracketKind.TheVariants.{Round, Square, Curly}
 use Rattle.automaton.specs.declared.role.Role.{Role}
 use Rattle.automaton.specs.declared.role.Role.TheVariants.{Plain, Opening, Closing}
 
 -- ( ) [ ] { } are the brackets, of three kinds.
-abbrev pub bracket : ℕ → Role
+abbrev pub bracket : ℕ → Role BracketKind
 bracket b =
     cond (b == 0x28) (Opening Round)
     (cond (b == 0x29) (Closing Round)
@@ -18,7 +19,7 @@ bracket b =
     (cond (b == 0x7D) (Closing Curly) Plain)))))
 
 -- A bracket plays its role where its class is that of a mark, and no other byte has one.
-abbrev pub role : Automaton → ℕ → ℕ → Role
+abbrev pub role : Automaton → ℕ → ℕ → Role BracketKind
 role a s b = cond (a.class s b == mark) (bracket b) Plain
 
 -- A live bracket is a byte with a role.

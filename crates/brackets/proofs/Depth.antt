@@ -6,6 +6,7 @@ use Rattle.std.proofs.Math.Seq.{take-add}
 use Rattle.automaton.specs.Automaton.{Automaton}
 use Rattle.automaton.specs.Bracket.{role}
 use Rattle.automaton.specs.Walk.{walk}
+use Rattle.automaton.specs.declared.role.BracketKind.{BracketKind}
 use Rattle.automaton.specs.declared.role.Role.{Role}
 use Rattle.automaton.specs.declared.role.Role.TheVariants.{Plain}
 use Rattle.measure.specs.Unmatched.{opens, closes, openings_in, closings_in}
@@ -29,7 +30,7 @@ module _ (a : Automaton) (text : List ℕ) where
   ends n h = take_all (n + 1) text (omega arith) ∙ sym (take_all n text h)
 
   -- What is counted by the roles of bytes, one byte further.
-  counted_more : (count : List ℕ → ℕ) (by : Role → ℕ) → ((front : List ℕ) (b : ℕ) → count (front ++ (b ∷ [])) ≡ count front + by (role a (walk a 0 front) b)) → by Plain ≡ 0 → (n : ℕ) → count (take (n + 1) text) ≡ count (take n text) + by (role_at a text n)
+  counted_more : (count : List ℕ → ℕ) (by : Role BracketKind → ℕ) → ((front : List ℕ) (b : ℕ) → count (front ++ (b ∷ [])) ≡ count front + by (role a (walk a 0 front) b)) → by Plain ≡ 0 → (n : ℕ) → count (take (n + 1) text) ≡ count (take n text) + by (role_at a text n)
   counted_more count by more none n =
       ⊎_elim (λ h. ap count (take_more text n 0 h) ∙ more (take n text) (get_or text n 0) ∙ ap (λ r. count (take n text) + by r) (sym (role_here n h)))
       (λ h. let same = ap count (ends n h) in omega (arith, ap by (role_outside n h), none))

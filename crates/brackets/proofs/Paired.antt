@@ -15,12 +15,12 @@ use Rattle.brackets.specs.Laws.{PartnersArePaired}
 use Rattle.brackets.specs.declared.partner.Partner.{Partner}
 use Rattle.brackets.proofs.Depth.{opened, closed, role_outside, opened_more, closed_more, uneven_by, by_level, by_uneven}
 
-is_opening : (r : Role) → 0 < opens r → (kind : BracketKind) × (r ≡ Opening kind)
+is_opening : (r : Role BracketKind) → 0 < opens r → (kind : BracketKind) × (r ≡ Opening kind)
 is_opening Plain h = absurd (omega arith)
 is_opening (Opening kind) h = (kind, refl)
 is_opening (Closing kind) h = absurd (omega arith)
 
-is_closing : (r : Role) → 0 < closes r → (kind : BracketKind) × (r ≡ Closing kind)
+is_closing : (r : Role BracketKind) → 0 < closes r → (kind : BracketKind) × (r ≡ Closing kind)
 is_closing Plain h = absurd (omega arith)
 is_closing (Opening kind) h = absurd (omega arith)
 is_closing (Closing kind) h = (kind, refl)

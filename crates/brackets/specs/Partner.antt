@@ -14,12 +14,12 @@ use Rattle.measure.specs.Unmatched.{openings_in, closings_in}
 use Rattle.search.specs.Places.{least, greatest}
 use Rattle.brackets.specs.declared.partner.Partner.{Partner}
 
-abbrev pub is_live : Role → Bool
+abbrev pub is_live : Role BracketKind → Bool
 is_live Plain = false
 is_live (Opening kind) = true
 is_live (Closing kind) = true
 
-abbrev pub kind_of : Role → Option BracketKind
+abbrev pub kind_of : Role BracketKind → Option BracketKind
 kind_of Plain = None
 kind_of (Opening kind) = Some kind
 kind_of (Closing kind) = Some kind
@@ -32,7 +32,7 @@ same_kind one other = false
 
 module _ (a : Automaton) (text : List ℕ) where
   -- The role of the byte at a place of the text.
-  abbrev pub role_at : ℕ → Role
+  abbrev pub role_at : ℕ → Role BracketKind
   role_at place = cond (nat_lt place (length text)) (role a (state_before a text place) (slice_index text place)) Plain
 
   -- How many live openings and live closings there are from p to q, both included.
@@ -61,7 +61,7 @@ module _ (a : Automaton) (text : List ℕ) where
   told p None = None
   told p (Some q) = Some (record { place = q; agree = agree p q })
 
-  abbrev pub partner_by : Role → ℕ → Option Partner
+  abbrev pub partner_by : Role BracketKind → ℕ → Option Partner
   partner_by Plain p = None
   partner_by (Opening kind) p = told p (partner_ahead p)
   partner_by (Closing kind) p = told p (partner_behind p)

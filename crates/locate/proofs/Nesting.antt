@@ -4,6 +4,7 @@ use Rattle.std.proofs.lemmas.Bool.{cases_Bool, cases_lt, and_parts, ltb-true, le
 use Rattle.automaton.specs.Automaton.{Automaton, Lawful}
 use Rattle.automaton.specs.Bracket.{role}
 use Rattle.automaton.specs.Walk.{walk}
+use Rattle.automaton.specs.declared.role.BracketKind.{BracketKind}
 use Rattle.automaton.specs.declared.role.Role.{Role}
 use Rattle.automaton.specs.declared.role.Role.TheVariants.{Plain, Opening, Closing}
 use Rattle.measure.specs.Bounded.{longest, capped}
@@ -74,7 +75,7 @@ module _ (a : Automaton) where
   PassesAhead text s d = through (ahead_on a) (nested s d) text ≡ Some (nested (walk a s text) (behind_run a s text d))
 
   -- One byte of a role, and then the rest.
-  over_ahead : (r : Role) (b : ℕ) (text : List ℕ) (s d : ℕ) → role a s b ≡ r → d + suc (length text) ≤ deepest → unmatched_closings a s (b ∷ text) < d → ((e : ℕ) → e + length text ≤ deepest → unmatched_closings a (a.step s b) text < e → PassesAhead text (a.step s b) e) → then (nested_in (a.step s b) (depth_ahead r d)) (λ x. through (ahead_on a) x text) ≡ Some (nested (walk a s (b ∷ text)) (behind_run a s (b ∷ text) d))
+  over_ahead : (r : Role BracketKind) (b : ℕ) (text : List ℕ) (s d : ℕ) → role a s b ≡ r → d + suc (length text) ≤ deepest → unmatched_closings a s (b ∷ text) < d → ((e : ℕ) → e + length text ≤ deepest → unmatched_closings a (a.step s b) text < e → PassesAhead text (a.step s b) e) → then (nested_in (a.step s b) (depth_ahead r d)) (λ x. through (ahead_on a) x text) ≡ Some (nested (walk a s (b ∷ text)) (behind_run a s (b ∷ text) d))
   over_ahead Plain b text s d is h l rest =
       let t = a.step s b in
       let o = ap opens is in
@@ -131,7 +132,7 @@ module _ (a : Automaton) where
   brackets_fit : (s : ℕ) (text : List ℕ) → unmatched_closings a s text ≤ length text
   brackets_fit s text = omega (arith, unmatched_few a s text)
 
-  over_behind : (r : Role) (b : ℕ) (text : List ℕ) (s d : ℕ) → role a s b ≡ r → d + suc (length text) ≤ deepest → unmatched_openings a s (b ∷ text) < d → leftwards (ran (length text) (before_run a (a.step s b) text d)) (depth_behind r (before_run a (a.step s b) text d)) ≡ ran (suc (length text)) (before_run a s (b ∷ text) d)
+  over_behind : (r : Role BracketKind) (b : ℕ) (text : List ℕ) (s d : ℕ) → role a s b ≡ r → d + suc (length text) ≤ deepest → unmatched_openings a s (b ∷ text) < d → leftwards (ran (length text) (before_run a (a.step s b) text d)) (depth_behind r (before_run a (a.step s b) text d)) ≡ ran (suc (length text)) (before_run a s (b ∷ text) d)
   over_behind Plain b text s d is h l =
       let o = ap opens is in
       let c = ap closes is in

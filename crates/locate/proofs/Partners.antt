@@ -6,6 +6,7 @@ use Rattle.std.proofs.lemmas.Bool.{cases_lt, cond-true, cond-false}
 use Rattle.automaton.specs.Automaton.{Automaton}
 use Rattle.automaton.specs.Bracket.{role}
 use Rattle.automaton.specs.Walk.{walk}
+use Rattle.automaton.specs.declared.role.BracketKind.{BracketKind}
 use Rattle.automaton.specs.declared.role.Role.{Role}
 use Rattle.automaton.specs.declared.role.Role.TheVariants.{Plain, Opening, Closing}
 use Rattle.automaton.proofs.Walk.{walk_more}
@@ -56,7 +57,7 @@ module _ (a : Automaton) (text : List ℕ) (p : ℕ) where
         ∙ ap (λ m. least (level a text p) m k) (add-one n)
         ∙ sym (cond-false (level a text p n) (Some n) (least (level a text p) (suc n) k) (uneven_by a text p n (omega arith) (λ z. omega arith)))
 
-    over_ahead : (r : Role) (d : ℕ) → role_at a text n ≡ r → 0 < d → d + suc k ≤ deepest → DeepAhead n d → stopped_before n (stop_or (nested (state n) d) (nested_in (state (n + 1)) (depth_ahead r d)) (λ w. ahead (n + 1) w)) ≡ least (level a text p) n (suc k)
+    over_ahead : (r : Role BracketKind) (d : ℕ) → role_at a text n ≡ r → 0 < d → d + suc k ≤ deepest → DeepAhead n d → stopped_before n (stop_or (nested (state n) d) (nested_in (state (n + 1)) (depth_ahead r d)) (λ w. ahead (n + 1) w)) ≡ least (level a text p) n (suc k)
     over_ahead Plain d is h few deep =
         let o = ap opens is in
         let c = ap closes is in
@@ -110,7 +111,7 @@ module _ (a : Automaton) (text : List ℕ) (p : ℕ) where
         ∙ rest e h few deep
         ∙ sym (cond-false (level a text n p) (Some n) (greatest (λ q. level a text q p) n) (uneven_by a text n p (omega arith) (λ z. omega arith)))
 
-    over_behind : (r : Role) (d : ℕ) → role_at a text n ≡ r → 0 < d → d + suc n ≤ deepest → DeepBehind (n + 1) d → stopped_behind (suc n) (after (leftwards (ran 0 d) (depth_behind r d)) (λ x. behind n x)) ≡ greatest (λ q. level a text q p) (suc n)
+    over_behind : (r : Role BracketKind) (d : ℕ) → role_at a text n ≡ r → 0 < d → d + suc n ≤ deepest → DeepBehind (n + 1) d → stopped_behind (suc n) (after (leftwards (ran 0 d) (depth_behind r d)) (λ x. behind n x)) ≡ greatest (λ q. level a text q p) (suc n)
     over_behind Plain d is h few deep =
         let o = ap opens is in
         let c = ap closes is in

@@ -12,13 +12,13 @@ abbrev pub shallower : ℕ → Option ℕ
 shallower depth = cond (nat_le depth 1) None (Some (depth - 1))
 
 -- Over a byte of a role: from left to right it counts openings, and closings match them.
-abbrev pub depth_ahead : Role → ℕ → Option ℕ
+abbrev pub depth_ahead : {K : Type 0} → Role K → ℕ → Option ℕ
 depth_ahead Plain depth = Some depth
 depth_ahead (Opening kind) depth = deeper depth
 depth_ahead (Closing kind) depth = shallower depth
 
 -- From right to left it counts closings.
-abbrev pub depth_behind : Role → ℕ → Option ℕ
+abbrev pub depth_behind : {K : Type 0} → Role K → ℕ → Option ℕ
 depth_behind Plain depth = Some depth
 depth_behind (Opening kind) depth = shallower depth
 depth_behind (Closing kind) depth = deeper depth

@@ -21,7 +21,7 @@ fn shallower(depth: u32) -> Option<u32>
 }
 
 // From left to right over a byte.
-pub fn depth_ahead(role: Role, depth: u32) -> Option<u32>
+pub fn depth_ahead<K: Copy>(role: Role<K>, depth: u32) -> Option<u32>
     ensures { result ≡ depth_ahead role depth }
 {
     match role {
@@ -32,7 +32,7 @@ pub fn depth_ahead(role: Role, depth: u32) -> Option<u32>
 }
 
 // From right to left over a byte.
-pub fn depth_behind(role: Role, depth: u32) -> Option<u32>
+pub fn depth_behind<K: Copy>(role: Role<K>, depth: u32) -> Option<u32>
     ensures { result ≡ depth_behind role depth }
 {
     match role {

@@ -10,7 +10,7 @@ use Rattle.automaton.specs.declared.role.Role.{Role}
 use Rattle.automaton.specs.declared.role.Role.TheVariants.{Plain, Opening, Closing}
 use Rattle.measure.specs.Unmatched.{opens, closes, openings_in, closings_in, unmatched_closings, unmatched_openings, Unmatched, CountedByDepth}
 
-pub one_role : (r : Role) → opens r + closes r ≤ 1
+pub one_role : {K : Type 0} (r : Role K) → opens r + closes r ≤ 1
 one_role Plain = omega arith
 one_role (Opening kind) = omega arith
 one_role (Closing kind) = omega arith

@@ -6,12 +6,12 @@ use Rattle.automaton.specs.Bracket.{role}
 use Rattle.automaton.specs.declared.role.Role.{Role}
 use Rattle.automaton.specs.declared.role.Role.TheVariants.{Plain, Opening, Closing}
 
-abbrev pub opens : Role → ℕ
+abbrev pub opens : {K : Type 0} → Role K → ℕ
 opens Plain = 0
 opens (Opening kind) = 1
 opens (Closing kind) = 0
 
-abbrev pub closes : Role → ℕ
+abbrev pub closes : {K : Type 0} → Role K → ℕ
 closes Plain = 0
 closes (Opening kind) = 0
 closes (Closing kind) = 1

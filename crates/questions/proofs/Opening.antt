@@ -1,5 +1,5 @@
 -- A subtree taken apart at its top slot: what memory says there of its sides, its chunk and its readings.
-use Rattle.std.proofs.Common.{◌≡◌, ℕ, ◌+◌, ◌-◌, ◌*◌, ◌<◌, ◌≤◌, [], ◌∷◌, ◌++◌, length, take, drop, get_or, Some, None, Option, sym, ap, ◌∙◌, subst, arith}
+use Rattle.std.proofs.Common.{◌≡◌, ℕ, ◌<◌, ◌≤◌, [], ◌∷◌, ◌++◌, length, get_or, Some, None, Option, sym, ap, ◌∙◌, subst, arith}
 use Rattle.std.proofs.lemmas.List.{length-map}
 use Rattle.measure.specs.Measure.{Measure, reading}
 use Rattle.chunks.specs.Tree.{Tree, node, slots, height}
@@ -32,10 +32,8 @@ within {m} {link} leads is =
 
 -- What the top slot says, where a link leads to one.
 pub record Top {R : Type 0} (m : Memory R) (link : Option ℕ) (i : ℕ) (s : Slot R) : Type 0 where
-  pub in_store : 64 * i + s.size ≤ length m.store.now
   pub some_byte : 1 ≤ s.size
   pub few_bytes : s.size ≤ 64
-  pub chunk_is : take (64 * i + s.size - 64 * i) (drop (64 * i) m.store.now) ≡ chunk_of m i
   pub chunk_long : length (chunk_of m i) ≡ s.size
   pub left_leads : Leads m s.node.left
   pub right_leads : Leads m s.node.right
@@ -62,17 +60,13 @@ top {R} {m} {link} {i} leads is s s-is =
     let low = here.some_byte in
     let high = here.few_bytes in
     let room = held.roomy in
-    let store_each = room.store_each in
-    let long : 64 * i + s.size - 64 * i ≡ size_of m i = omega arith in
     let higher = node_higher v.1.1.0 in
     let left-is : tree_of m s.node.left ≡ l = read_is left in
     let right-is : tree_of m s.node.right ≡ r = read_is right in
     let opened : (μ : Measure R) → Kept μ m link → Holds (kept μ) m (node l i r) = λ μ k. subst (λ (z : Tree). Holds (kept μ) m z) v.1.1.0 k in
     record {
-      in_store = omega arith;
       some_byte = omega arith;
       few_bytes = omega arith;
-      chunk_is = ap (λ n. take n (drop (64 * i) m.store.now)) long;
       chunk_long = chunk_length m room i known high ∙ sym sized;
       left_leads = held_kept left;
       right_leads = held_kept right;

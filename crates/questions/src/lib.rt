@@ -3,5 +3,6 @@
 
 #![tactic(auto)]
 
+pub mod own;
 pub mod span;
 pub mod subtree;

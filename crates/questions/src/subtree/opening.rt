@@ -9,6 +9,7 @@ ghost use Rattle.questions.specs.Under.{tree_under, chunks_under, text_under, Ke
 ghost use Rattle.questions.specs.Spans.{behind};
 ghost use Rattle.questions.specs.Parted.{Parted, KeptAs};
 
+use crate::own::chunk;
 use crate::span::Span;
 use crate::subtree::{Parts, Subtree};
 use balance::link::extent;
@@ -57,9 +58,7 @@ impl<'m, 'a, R: Copy> Subtree<'m, 'a, R> {
         let i = self.link?;
         let memory = self.memory;
         let slots = &*memory.slots;
-        let store = &*memory.store;
         let slot = &slots[i as usize];
-        let from = 64 * i as usize;
         let left = Subtree {
             memory,
             link: slot.node.left,
@@ -70,7 +69,7 @@ impl<'m, 'a, R: Copy> Subtree<'m, 'a, R> {
         };
         Some(Parts {
             left,
-            chunk: &store[from..from + slot.size as usize],
+            chunk: chunk(memory, i),
             reading: &slot.own,
             right,
         })

@@ -23,7 +23,7 @@ returns g c =
     let m = c.args.self.memory.now in
     let left = c.index-slots-i.result.node.left in
     let right = c.index-slots-i.result.node.right in
-    let chunk-is = sym t.chunk_is in
+    let chunk-is = sym c.chunk.ensures in
     record {
       chunks = t.chunks ∙ ap (λ (l : List ℕ). chunks_in m left ++ (l ∷ chunks_in m right)) chunk-is;
       few = t.few;
