@@ -1,10 +1,11 @@
 // What a host lends and under which pile it works, as the words behind the program's name say.
-ghost use Rattle.std.specs.Prelude.{◌≡◌, ◌*◌, ◌^◌, ◌<◌, unwrap_or, is_some};
+ghost use Rattle.std.specs.Prelude.{◌≡◌, ◌*◌, ◌^◌, ◌<◌, Some, unwrap_or, is_some};
 ghost use Rattle.notation.specs.Number.{number_of};
 ghost use Rattle.hosting.specs.Lent.{setting_named as setting_of, pile_named as pile_of, begins_with_digit as begins_so, set_by, slots_by, pile_by, word_read, no_options, misread_text, words_read};
 
 use notation::number::number;
 use report::Pile;
+use std::fmt;
 
 // How many slots are lent if no word says so, and how many cells a screen has.
 const USUAL_SLOTS: u32 = 4096;
@@ -29,7 +30,7 @@ pub enum Misread {
 }
 
 impl Misread {
-    // No Display: the bytes of a constant are one short clause, and through a formatter no plainer one.
+    // The text by itself, which takes no memory and no formatter; what is displayed is this.
     pub fn text(self) -> &'static str
         ensures { result.now ≡ misread_text self }
     {
@@ -39,6 +40,14 @@ impl Misread {
             Misread::SecondSlots => "one number of slots at a time",
             Misread::NoNumber => "a number from 0 to 4294967295 is wanted",
         }
+    }
+}
+
+impl fmt::Display for Misread {
+    ghost output = { λ misread. Some (misread_text misread) };
+
+    fn fmt<W: fmt::Write>(&self, f: &mut fmt::Formatter<W>) -> fmt::Result {
+        f.write_str(self.text())
     }
 }
 

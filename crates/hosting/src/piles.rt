@@ -6,7 +6,8 @@ use grammar::{Grammar, Words};
 use layers::{Comment, Quoted, Region};
 use report::Pile;
 
-// What is to be done with a grammar, whichever it is. No closure: it would have to be generic over the grammar, and cannot be.
+// What is to be done with a grammar, whichever it is. No closure: none is generic over the grammar, and a bound on one that takes
+// a `&dyn Grammar` cannot be stated. In this trait a `&dyn Grammar` would be no plainer, and each byte would be read through a table.
 pub trait Work {
     type Output;
 

@@ -29,14 +29,10 @@ pub fn load<G: Grammar + Copy>(
 {
     let meter = document_meter(*grammar, Blank);
     let mut tree = ChunkTree::new(slots, store, readings);
-    let Ok(()) = tree.prepare(usable) else {
-        return None;
-    };
+    tree.prepare(usable).ok()?;
     for piece in text.chunks(PIECE) {
         let end = tree.chunks();
-        let Ok(()) = tree.replace(&meter, end, end, piece) else {
-            return None;
-        };
+        tree.replace(&meter, end, end, piece).ok()?;
     }
     let bytes = tree.bytes();
     let reading = tree.reading(&meter, 0, bytes);

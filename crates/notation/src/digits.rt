@@ -9,24 +9,15 @@ pub(crate) fn value_of(digit: u8) -> Option<u8>
     ensures value { result ≡ digit_value digit }
     ensures small { IfSome result (λ n. n < 16) }
 {
-    match digit {
-        b'0'..=b'9' => Some(digit - b'0'),
-        b'a'..=b'f' => Some(digit - b'a' + 10),
-        b'A'..=b'F' => Some(digit - b'A' + 10),
-        _ => None,
-    }
+    let value = char::from(digit).to_digit(16)?;
+    u8::try_from(value).ok()
 }
 
 // The digit of a cell, for its value mod 16, with a small letter from ten on.
 pub fn cell_digit(cell: u8) -> u8
     ensures { result ≡ lower_digit_of (cell % 16) }
 {
-    let value = cell % 16;
-    if value < 10 {
-        b'0' + value
-    } else {
-        b'a' + (value - 10)
-    }
+    char::from_digit(u32::from(cell % 16), 16).unwrap() as u8
 }
 
 // The digit of a value with a capital letter from ten on.

@@ -6,10 +6,8 @@ ghost use Rattle.notation.specs.Number.{longer_within, number_of};
 fn longer(value: u32, byte: u8) -> Option<u32>
     ensures { result ≡ longer_within value byte }
 {
-    match byte {
-        b'0'..=b'9' => value.checked_mul(10)?.checked_add(u32::from(byte - b'0')),
-        _ => None,
-    }
+    let digit = char::from(byte).to_digit(10)?;
+    value.checked_mul(10)?.checked_add(digit)
 }
 
 // The number that a word is, if it is one.

@@ -2,7 +2,7 @@
 ghost use Rattle.std.specs.Prelude.{◌≡◌, IfOk, string_bytes};
 ghost use Rattle.report.specs.Summary.{summary as text_summary, summarized, summary_line};
 
-use crate::summary::Summary;
+use crate::summary::{Summary, SummaryLine};
 use grammar::Grammar;
 use measure::place_reading::Extent;
 use measure::walk_reading::Passage;
@@ -14,20 +14,17 @@ use walks::document_meter;
 pub fn summarize(walk: &Option<Passage>, place: &Option<Extent>) -> Option<Summary>
     ensures { result ≡ summarized walk.now place.now }
 {
-    match (walk, place) {
-        (Some(passage), Some(extent)) => {
-            let start = passage.entries[0];
-            Some(Summary {
-                length: extent.length,
-                lines: extent.lines,
-                units: extent.units,
-                state: start.end,
-                closings: start.closings,
-                openings: start.openings,
-            })
-        }
-        _ => None,
-    }
+    let (passage, extent) = (walk.as_ref()?, place.as_ref()?);
+    let start = passage.entry(0);
+    // No From: a summary is the two side by side, in the order in which its line has them, and is made here alone.
+    Some(Summary {
+        length: extent.length,
+        lines: extent.lines,
+        units: extent.units,
+        state: start.end,
+        closings: start.closings,
+        openings: start.openings,
+    })
 }
 
 // What is read of the whole text; nothing where it is overlong.
@@ -43,8 +40,6 @@ pub fn summary_of<G: Grammar + Copy>(grammar: &G, text: &[u8]) -> Option<Summary
 pub fn summary_text(heap: Global, summary: Option<Summary>) -> Result<String, AllocError>
     ensures { IfOk result (λ s. string_bytes s ≡ summary_line summary) }
 {
-    match summary {
-        Some(summary) => format!(in heap; "{summary}"),
-        None => String::from_str(heap, "overlong"),
-    }
+    let line = SummaryLine(summary);
+    format!(in heap; "{line}")
 }

@@ -33,3 +33,18 @@ impl fmt::Display for Summary {
         )
     }
 }
+
+// That line, or what is written in its place of a text that has no summary.
+#[derive(Clone, Copy)]
+pub struct SummaryLine(pub Option<Summary>);
+
+impl fmt::Display for SummaryLine {
+    ghost output = { λ line. Some (summary_line line.0) };
+
+    fn fmt<W: fmt::Write>(&self, f: &mut fmt::Formatter<W>) -> fmt::Result {
+        match self.0 {
+            Some(summary) => write!(f, "{summary}"),
+            None => f.write_str("overlong"),
+        }
+    }
+}

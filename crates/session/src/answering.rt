@@ -8,7 +8,7 @@ use model::{Change, Layer, Refusal};
 use std::alloc::{AllocError, Global};
 use std::fmt;
 
-// No Display: a layer is a type of `model`, which writes nothing, and how it is written is told here.
+// One word in one format string, where a `&'static str` is displayed as it is: a wrapper with a Display would be this match and more.
 fn layer_name(layer: Layer) -> &'static str
     ensures { result.now ≡ name_of_layer layer }
 {

@@ -1,4 +1,6 @@
-use Rattle.std.proofs.Common.{◌≡◌, ◌≤◌, length, sym, ap, ◌∙◌, subst, arith}
+use Rattle.std.proofs.Common.{◌≡◌, ◌≤◌, length, Some, Result, Ok, Err, sym, ap, ◌∙◌, subst, arith}
+use Rattle.std.specs.ControlFlow.{continue_value}
+use Rattle.std.specs.Result.{result_ok}
 use Rattle.std.specs.Slice.Iter.{chunks_rest}
 use Rattle.std.proofs.lemmas.Grind.{common_steps}
 use Rattle.std.proofs.lemmas.List.{length-map}
@@ -17,9 +19,15 @@ use Rattle.report.proofs.Summarized.{summarized_is}
 use Rattle.load.proofs.Piecewise.{SoFar, so_far_none, so_far_more, so_far_all, so_far_few}
 use Rattle.load.proofs.loading.load.Goals as goal
 
+-- What `ok` tells where it gives a value.
+was_ok : {T E : Type 0} (r : Result T E) (x : T) → result_ok r ≡ Some x → r ≡ Ok x
+was_ok (Ok y) x is = cc
+was_ok (Err e) x is = cc
+
 pub loop-piece-init : goal.loop-piece-init
 loop-piece-init g c =
-    let made = c.in-Ok.ensures in
+    let ok = was_ok c.prepare.result _ (sym c.ok.ensures.value ∙ c.branch-ok.ensures ∙ ap continue_value c.in_ok-ok.is) in
+    let made = rw ok at c.prepare.ensures in
     let whole : chunks_rest c.into_iter-piece-iterator.result ≡ c.args.text.now = cc in
     record {
       pieces = cc;
@@ -30,7 +38,8 @@ loop-piece-init g c =
 
 pub loop-piece-preserved : goal.loop-piece-preserved
 loop-piece-preserved g c =
-    let done = c.in-Ok-replace.ensures in
+    let ok = was_ok c.replace.result _ (sym c.ok-in-loop-piece.ensures.value ∙ c.branch-ok-in-loop-piece.ensures ∙ ap continue_value c.in_ok-ok-2.is) in
+    let done = rw ok at c.replace.ensures in
     let loop = c.loop-piece.invariant in
     let next = c.in-Some.ensures.steps in
     record {
