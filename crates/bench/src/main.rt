@@ -41,22 +41,27 @@ fn end_of(reading: &Option<Passage>, round: u32) -> u8 {
 }
 
 // Each round makes a value out of the last one, so that none can be left out.
+fn time_rounds<F: Fn(u8, u32) -> u8 + Drop>(rt: &HostRuntime, step: F) -> io::Result<Timed<u8>>
+    requires { F.IsAlwaysCallable step }
+{
+    time(rt, || {
+        (0..ROUNDS).fold(0u8, |used, round| used ^ step(used, round))
+    })
+}
+
 fn time_walk(rt: &HostRuntime) -> io::Result<Timed<u8>> {
     let grammar = pile();
-    time(rt, || {
-        (0..ROUNDS).fold(0u8, |used, round| {
-            used ^ grammar::walk(&grammar, used % 18, &text_of(round))
-        })
+    time_rounds(rt, |used, round| {
+        grammar::walk(&grammar, used % 18, &text_of(round))
     })
 }
 
 fn time_measure(rt: &HostRuntime) -> io::Result<Timed<u8>> {
     let meter = Walk { grammar: pile() };
-    time(rt, || {
-        (0..ROUNDS).fold(0u8, |used, round| {
-            used ^ end_of(&meter.measure(&text_of(round)), round)
-        })
-    })
+    time_rounds(
+        rt,
+        |_, round| end_of(&meter.measure(&text_of(round)), round),
+    )
 }
 
 fn time_join(rt: &HostRuntime) -> io::Result<Timed<u8>> {
@@ -67,12 +72,10 @@ fn time_join(rt: &HostRuntime) -> io::Result<Timed<u8>> {
         meter.measure(&TEXT[9..]),
         meter.measure(&TEXT[40..]),
     ];
-    time(rt, || {
-        (0..ROUNDS).fold(0u8, |used, round| {
-            let left = &pieces[round as usize % 4];
-            let right = &pieces[round as usize / 4 % 4];
-            used ^ end_of(&meter.join(left, right), round)
-        })
+    time_rounds(rt, |_, round| {
+        let left = &pieces[round as usize % 4];
+        let right = &pieces[round as usize / 4 % 4];
+        end_of(&meter.join(left, right), round)
     })
 }
 

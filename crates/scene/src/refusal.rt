@@ -32,8 +32,7 @@ impl fmt::Display for Refusal<'_> {
     fn fmt<W: fmt::Write>(&self, f: &mut fmt::Formatter<W>) -> fmt::Result {
         match *self {
             Refusal::Misread { word, misread } => {
-                let text = misread.text();
-                write!(f, "{word}: {text}; the piles are {NAMES}")
+                write!(f, "{word}: {misread}; the piles are {NAMES}")
             }
             Refusal::CutOff => write!(f, "a number is missing at the end"),
             Refusal::UnknownPile(word) => {

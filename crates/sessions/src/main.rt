@@ -6,7 +6,7 @@
 ghost use Rattle.std.specs.Prelude.{◌<◌, ◌≤◌, length};
 
 use anyhow::anyhow;
-use hosting::{Options, run_session};
+use hosting::{MisreadAt, Options, run_session};
 use std::io::{Read, Write};
 use std::str;
 
@@ -43,10 +43,7 @@ fn run(rt: &HostRuntime, session: &[u8]) -> anyhow::Result<()> {
     let words: Vec<&str> = prompt.split_whitespace().skip(2).collect(rt.alloc())?;
     let options = match Options::read(&words) {
         Ok(options) => options,
-        Err(at) => {
-            let text = at.misread.text();
-            return Ok(println!(rt; "{text}")?);
-        }
+        Err(MisreadAt { misread, .. }) => return Ok(println!(rt; "{misread}")?),
     };
     if !run_session(rt.alloc(), &options, &mut lines, &mut rt.stdout())? {
         println!(rt; "some lines could not be read")?;
