@@ -178,9 +178,10 @@ lent_by desk = (desk.screen.now, desk.buffer.now, desk.reading.now)
 abbrev pub lent_of : {R : Type 0} → Snapshot R → List ℕ × List ℕ × R
 lent_of s = (s.screen, s.buffer, s.reading)
 
--- A log of a new document with the given calls, in order, and their answers, from one screen, buffer and reading to others.
-pub record Replayed {R : Type 0} (a : Automaton) (μ : Measure R) (calls : List Call) (answers : List Answer) (before after : List ℕ × List ℕ × R) : Type 0 where
+-- A log of a new document, made of so much lent memory, with the given calls, in order, and their answers, from one screen, buffer and reading to others.
+pub record Replayed {R : Type 0} (a : Automaton) (μ : Measure R) (made : Model) (calls : List Call) (answers : List Answer) (before after : List ℕ × List ℕ × R) : Type 0 where
   pub first : Snapshot R
+  pub made_of : model_of first.document ≡ made
   pub log : List (Entry R)
   pub follows : Follows a μ first log
   pub calls_are : map (λ e. e.call) (reverse log) ≡ calls

@@ -1,6 +1,7 @@
 // A whole log at once: a new document over lent memory, and calls carried out on it one after another.
 ghost use Rattle.std.specs.Prelude.{◌≡◌, ℕ, min, List, length, take, drop};
 ghost use Rattle.editing.specs.Content.{scale_of};
+ghost use Rattle.document.specs.Content.{new_model};
 ghost use Rattle.document.specs.Snapshot.{SameDesk};
 ghost use Rattle.document.specs.Log.{lent_by, Replayed};
 
@@ -27,7 +28,7 @@ pub fn replay<X: Copy, G: Grammar, H: Meter<Reading = X>>(
 ) -> usize
     ensures count { result ≡ min (length calls.now) (length answers.old) }
     ensures rest { drop result answers.new ≡ drop result answers.old }
-    ensures law { Replayed (G.meaning meter.now.first.grammar) (scale_of G.meaning H.scale meter.now) (take result calls.now) (take result answers.new) (lent_by desk.old) (lent_by desk.new) }
+    ensures law { Replayed (G.meaning meter.now.first.grammar) (scale_of G.meaning H.scale meter.now) (new_model (length slots.old) (length store.old) (length readings.old)) (take result calls.now) (take result answers.new) (lent_by desk.old) (lent_by desk.new) }
     ensures lent { SameDesk desk.old desk.new }
 {
     let mut document = Document::new(slots, store, readings);

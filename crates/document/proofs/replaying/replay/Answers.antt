@@ -17,7 +17,7 @@ loop-answer-init g c =
     let μ = scale_of g.G.Grammar.meaning g.H.Meter.scale c.args.meter.now in
     let made = c.new-document.ensures in
     let new : New (seen c.new-document.result c.args.desk.now) = record { not_opened = ap (λ (m : Model). m.usable) made.is; no_due = ap (λ (m : Model). m.due) made.is } in
-    (begins a μ (seen c.new-document.result c.args.desk.now) new, refl, (refl, (refl, refl)), c.iter-left.ensures.rest, omega arith)
+    (begins a μ _ (seen c.new-document.result c.args.desk.now) made.is new, refl, (refl, (refl, refl)), c.iter-left.ensures.rest, omega arith)
 
 pub loop-answer-preserved : goal.loop-answer-preserved
 loop-answer-preserved g c =
@@ -35,7 +35,7 @@ loop-answer-preserved g c =
     let split = sym ahead ∙ drop_more calls i Size some in
     let same : call ≡ get_or calls i Size = ap (λ l. get_or l 0 Size) split in
     let lent = c.perform.ensures.lent in (
-      goes_on a μ (lent_by c.args.desk.now) (take i calls) (take i answers) _ _ so c.perform.ensures.law (take (i + 1) calls) (take_more calls i Size some ∙ ap (λ k. take i calls ++ (k ∷ [])) (sym same)) (take (i + 1) (set answers i c.perform.result)) (take_more_set answers i c.perform.result room),
+      goes_on a μ _ (lent_by c.args.desk.now) (take i calls) (take i answers) _ _ so c.perform.ensures.law (take (i + 1) calls) (take_more calls i Size some ∙ ap (λ k. take i calls ++ (k ∷ [])) (sym same)) (take (i + 1) (set answers i c.perform.result)) (take_more_set answers i c.perform.result room),
       drop-set-lt (i + 1) answers i c.perform.result (omega arith) ∙ drop_more_same answers c.args.answers.now i rest,
       (lent.0 ∙ before.0, (lent.1.0 ∙ before.1.0, lent.1.1 ∙ before.1.1)),
       ap (drop 1) split,
@@ -60,5 +60,5 @@ returns-clause-law g c =
       | then-loop-answer-test+in_default w ↦ w.answers-is ∙ set-get_or c.loop-answer.answers i _
     ] in
     let here = seen c.loop-answer.document c.loop-answer.desk in
-    replayed a μ (lent_by c.args.desk.now) (take c.min.result calls) (take c.min.result c.loop-answer-test.answers) here
-    (subst₂ (λ n answers. Going a μ (lent_by c.args.desk.now) (take n calls) (take n answers) here) all (sym same) so)
+    replayed a μ _ (lent_by c.args.desk.now) (take c.min.result calls) (take c.min.result c.loop-answer-test.answers) here
+    (subst₂ (λ n answers. Going a μ _ (lent_by c.args.desk.now) (take n calls) (take n answers) here) all (sym same) so)
