@@ -5,6 +5,7 @@ use Rattle.std.specs.Slice.Iter.{iter_rest}
 use Rattle.model.specs.Model.{Model}
 use Rattle.editing.specs.Content.{scale_of}
 use Rattle.document.specs.declared.call.Call.TheVariants.{Size}
+use Rattle.document.specs.Content.{new_model}
 use Rattle.document.specs.Snapshot.{seen}
 use Rattle.document.specs.Log.{lent_by, New}
 use Rattle.document.proofs.Replays.{Going, begins, goes_on, replayed}
@@ -60,5 +61,6 @@ returns-clause-law g c =
       | then-loop-answer-test+in_default w ↦ w.answers-is ∙ set-get_or c.loop-answer.answers i _
     ] in
     let here = seen c.loop-answer.document c.loop-answer.desk in
-    replayed a μ _ (lent_by c.args.desk.now) (take c.min.result calls) (take c.min.result c.loop-answer-test.answers) here
-    (subst₂ (λ n answers. Going a μ _ (lent_by c.args.desk.now) (take n calls) (take n answers) here) all (sym same) so)
+    let made = new_model (length c.args.slots.now) (length c.args.store.now) (length c.args.readings.now) in
+    replayed a μ made (lent_by c.args.desk.now) (take c.min.result calls) (take c.min.result c.loop-answer-test.answers) here
+    (subst₂ (λ n answers. Going a μ made (lent_by c.args.desk.now) (take n calls) (take n answers) here) all (sym same) so)

@@ -13,5 +13,5 @@ invariant-loop-answer g l =
     let a = g.G.Grammar.meaning l.meter.first.grammar in
     let μ = scale_of g.G.Grammar.meaning g.H.Meter.scale l.meter in
     let i = l.answer-index in
-    Going a μ (new_model (length l.initial.slots) (length l.initial.store) (length l.initial.readings)) (lent_by l.initial.desk) (take i l.calls) (take i l.answers) (seen l.document l.desk)
+    Going a μ (new_model (length l.fn.slots) (length l.fn.store) (length l.fn.readings)) (lent_by l.initial.desk) (take i l.calls) (take i l.answers) (seen l.document l.desk)
     × (drop i l.answers ≡ drop i l.initial.answers) × SameDesk l.initial.desk l.desk × (iter_rest l.left ≡ drop i l.calls) × (i ≤ length l.calls)
