@@ -221,7 +221,9 @@ impl<G: Grammar> Host<'_, G> {
         let middle = (bytes / 2).saturating_add(7);
         let start = middle as usize;
         let piece = text.get(start..start.saturating_add(64)).unwrap_or(&[]);
-        let (line, _) = document.place(meter, bytes).unwrap_or((0, 0));
+        // The last line but one: behind it a look at the whole tree would do.
+        let (lines, _) = document.place(meter, bytes).unwrap_or((0, 0));
+        let line = lines.saturating_sub(1);
         report_question(
             rt,
             size,
