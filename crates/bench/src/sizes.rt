@@ -212,6 +212,24 @@ impl<G: Grammar> Host<'_, G> {
         println!(rt; "{size} script {median}")
     }
 
+    // PARTNER of the first and of the last byte, across the whole text.
+    fn report_partners(&self, rt: &HostRuntime, size: usize, last: u32) -> io::Result<()> {
+        let document = &self.document;
+        let meter = &self.meter;
+        report_question(
+            rt,
+            size,
+            "partner",
+            || place_of(document.partner(meter, 0).unwrap_or(None)),
+        )?;
+        report_question(
+            rt,
+            size,
+            "partner-back",
+            || place_of(document.partner(meter, last).unwrap_or(None)),
+        )
+    }
+
     // The questions at the far end, across the whole text and in the middle.
     fn report_asked(&self, rt: &HostRuntime, size: usize, text: &[u8]) -> io::Result<()> {
         let document = &self.document;
@@ -236,18 +254,7 @@ impl<G: Grammar> Host<'_, G> {
             "spot",
             || document.spot(meter, line, 9).unwrap_or(0),
         )?;
-        report_question(
-            rt,
-            size,
-            "partner",
-            || place_of(document.partner(meter, 0).unwrap_or(None)),
-        )?;
-        report_question(
-            rt,
-            size,
-            "partner-back",
-            || place_of(document.partner(meter, last).unwrap_or(None)),
-        )?;
+        self.report_partners(rt, size, last)?;
         report_question(rt, size, "range", || {
             let mut reading = UNREAD;
             let _ = document.range(meter, 0, last, &mut reading);
