@@ -1,28 +1,16 @@
 // Times calls on a document with a short and with a long text: keystrokes in its middle, each one byte more and then one byte less,
 // and the questions.
+use crate::host::{CELLS, Host, SLOTS};
 use crate::timing::time;
 use crate::{Pile, TEXT, pile};
 use brackets::Partner;
-use document::{Answer, Call, Desk, Document};
+use document::{Call, Desk, Document};
 use load::{Room, UNREAD};
 use meter::Blank;
-use model::Change;
 use std::io;
-use walks::{DocumentMeter, Readings, document_meter};
+use walks::document_meter;
 
 const KEYS: u32 = 4_000;
-
-const SLOTS: u16 = 4096;
-
-const CELLS: usize = 262144;
-
-// A document, with the meter and the desk that its calls are lent.
-#[derive(Drop)]
-struct Host<'d> {
-    document: Document<'d, Readings<()>>,
-    meter: DocumentMeter<Pile, Blank>,
-    desk: Desk<'d, Readings<()>>,
-}
 
 // What an edit and its paint took, on the mean, in nanoseconds.
 #[derive(Clone, Copy)]
@@ -31,41 +19,13 @@ struct Keystroke {
     paint: u128,
 }
 
-impl Host<'_> {
-    fn perform(&mut self, call: Call) -> Answer {
-        self.document.perform(&self.meter, &mut self.desk, call)
-    }
-
-    // An edit, and the change that waits to be painted.
-    fn edit(&mut self, from: u32, to: u32, bytes: &[u8]) -> Option<Change> {
-        match self.perform(Call::Edit { from, to, bytes }) {
-            Answer::Due(change) => Some(change),
-            _ => None,
-        }
-    }
-
-    fn paint(&mut self, change: Option<Change>) {
-        if let Some(change) = change {
-            self.perform(Call::Paint { change });
-        }
-    }
-
-    fn put(&mut self, place: u32, bytes: &[u8]) {
-        let change = self.edit(place, place, bytes);
-        self.paint(change);
-    }
-
+impl Host<'_, Pile> {
     // Types so many pieces of 64 bytes behind each other.
     fn fill(&mut self, pieces: u32) {
         self.perform(Call::Open { states: 18 });
         for k in 0..pieces.min(4096) {
             self.put(64 * k, &TEXT);
         }
-    }
-
-    fn bytes(&self) -> u32 {
-        let (bytes, _, _) = self.document.size();
-        bytes
     }
 
     // Keystrokes at a place: a byte put in, and taken out again.
@@ -119,7 +79,7 @@ impl Host<'_> {
     }
 }
 
-fn place_of(partner: Option<Partner>) -> u32 {
+pub fn place_of(partner: Option<Partner>) -> u32 {
     partner.map_or(0, |partner| partner.place)
 }
 

@@ -1,5 +1,5 @@
-// Times the meter of walks beside a plain walk of the same bytes, and keystrokes and questions on a document, when it is given the
-// word `run`. Without that word it writes nothing, so that a gate can run it.
+// Times the meter of walks beside a plain walk of the same bytes, and calls on documents with texts of several sizes, when it is
+// given the word `run`. Without that word it writes nothing, so that a gate can run it.
 
 #![tactic(auto)]
 
@@ -12,6 +12,9 @@ use timing::{Timed, time};
 use walks::Walk;
 
 mod calls;
+mod host;
+mod scenes;
+mod sizes;
 mod timing;
 
 type Pile = Quoted<Comment<Words>>;
@@ -96,5 +99,6 @@ fn main(rt: HostRuntime) -> io::Result<()> {
     report(&rt, "join two readings", time_join(&rt)?, walk)?;
     report(&rt, "measure 64 bytes", time_measure(&rt)?, walk)?;
     calls::report_keystroke(&rt, 64)?;
-    calls::report_keystroke(&rt, 4000)
+    calls::report_keystroke(&rt, 4000)?;
+    sizes::report_sizes(&rt)
 }

@@ -1,4 +1,5 @@
-// How long it takes what a closure does.
+// How long it takes what a closure does, and the median of samples.
+use std::alloc::{AllocError, Global};
 use std::io;
 use std::time::Instant;
 
@@ -18,4 +19,29 @@ pub fn time<T: Drop, F: FnOnce() -> T + Drop>(rt: &HostRuntime, work: F) -> io::
         value,
         nanoseconds: start.elapsed(rt)?.as_nanos(),
     })
+}
+
+// How many nanoseconds it took, each time.
+#[derive(Drop)]
+pub struct Samples {
+    nanoseconds: Vec<u128>,
+}
+
+impl Samples {
+    pub fn new(heap: Global) -> Samples {
+        Samples {
+            nanoseconds: Vec::new(heap),
+        }
+    }
+
+    pub fn add(&mut self, nanoseconds: u128) -> Result<(), AllocError> {
+        self.nanoseconds.push(nanoseconds)?;
+        Ok(())
+    }
+
+    pub fn median(&mut self) -> Result<u128, AllocError> {
+        self.nanoseconds.sort()?;
+        let middle = self.nanoseconds.len() / 2;
+        Ok(self.nanoseconds.get(middle).copied().unwrap_or(0))
+    }
 }
