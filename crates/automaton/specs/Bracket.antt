@@ -19,8 +19,12 @@ bracket b =
     (cond (b == 0x7D) (Closing Curly) Plain)))))
 
 -- A bracket plays its role where its class is that of a mark, and no other byte has one.
+abbrev pub role_of : ℕ → ℕ → Role BracketKind
+role_of class b = cond (class == mark) (bracket b) Plain
+
+-- The role of a byte read from a state.
 abbrev pub role : Automaton → ℕ → ℕ → Role BracketKind
-role a s b = cond (a.class s b == mark) (bracket b) Plain
+role a s b = role_of (a.class s b) b
 
 -- A live bracket is a byte with a role.
 abbrev pub Live : Automaton → ℕ → ℕ → Type 0

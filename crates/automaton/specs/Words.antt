@@ -5,8 +5,6 @@ use Rattle.automaton.specs.Automaton.{Automaton, automaton}
 use Rattle.automaton.specs.Class as class
 use Rattle.automaton.specs.declared.byte_kind.ByteKind.{ByteKind}
 use Rattle.automaton.specs.declared.byte_kind.ByteKind.TheVariants.{Blank, Letter, Digit, Point, Other}
-use Rattle.automaton.specs.declared.word_state.WordState.{WordState}
-use Rattle.automaton.specs.declared.word_state.WordState.TheVariants.{Ground, InWord, InNumber}
 
 abbrev pub within : ℕ → ℕ → ℕ → Bool
 within low high b = nat_le low b && nat_le b high
@@ -26,9 +24,6 @@ in_word = 1
 
 abbrev pub in_number : ℕ
 in_number = 2
-
-abbrev pub word_state : ℕ → WordState
-word_state s = cond (s == ground) Ground (cond (s == in_word) InWord InNumber)
 
 -- A digit goes on with a word, and a point with a number; elsewhere a digit begins a number.
 abbrev pub words_step : ℕ → ByteKind → ℕ

@@ -26,7 +26,7 @@ pub fn child<R: Copy>(memory: &Memory<R>, i: u16, side: Side) -> Option<u16>
 
 // Puts slot `i` between two level trees, `near` on the given side.
 // Here and below, `near`, `i` and `far` stay parameters: all calls but the two in `rotate` differ in them, so a struct would be written out at each.
-// Nor is there a struct for what those two share: clauses would be half as long again, with nine `lean.side` in the longest.
+// Nor is there a struct for what those two share: clauses would be a third to a half longer, with nine `lean.side` in the longest.
 fn link_around<R: Copy, M: Meter<Reading = R>>(
     meter: &M,
     memory: &mut Memory<R>,

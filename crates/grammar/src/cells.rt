@@ -11,9 +11,9 @@ pub fn colour_cells<G: Grammar>(grammar: &G, state: u8, cells: &mut [u8]) -> u8
 {
     let mut now_in = state;
     for cell in cells.iter_mut() {
-        let byte = *cell;
-        *cell = grammar.class(now_in, byte);
-        now_in = grammar.step(now_in, byte);
+        let read = grammar.read(now_in, *cell);
+        *cell = read.class;
+        now_in = read.behind;
     }
     now_in
 }

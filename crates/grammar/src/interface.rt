@@ -1,10 +1,10 @@
-// The interface of a grammar: four answers, each from the grammar's own value alone, and the role of a byte.
+// The interface of a grammar: four answers, each from the grammar's own value alone, and what follows from them of a byte.
 ghost use Rattle.std.specs.Prelude.{◌≡◌};
 ghost use Rattle.automaton.specs.Automaton.{Automaton, Lawful};
-ghost use Rattle.automaton.specs.Bracket.{role as role_of};
+ghost use Rattle.automaton.specs.Bracket.{role as role_in};
 
-use crate::class;
-use automaton::role::{BracketKind, Role};
+use crate::step::{Step, role_of};
+use automaton::role::Role;
 
 // States are numbers below the count, since each grammar has its own and a reading keeps an entry for each number.
 pub trait Grammar {
@@ -29,21 +29,21 @@ pub trait Grammar {
     fn is_open(&self, state: u8) -> bool
         ensures { result ≡ (meaning self.now).is_open state };
 
+    // The class of `byte` read from `state`, and the state behind it, together.
+    fn read(&self, state: u8, byte: u8) -> Step
+        ensures class { result.class ≡ (meaning self.now).class state byte }
+        ensures behind { result.behind ≡ (meaning self.now).step state byte }
+    {
+        Step {
+            class: self.class(state, byte),
+            behind: self.step(state, byte),
+        }
+    }
+
     // The role of `byte` read from `state`: a bracket that is a mark, or nothing.
     fn role(&self, state: u8, byte: u8) -> Role
-        ensures { result ≡ role_of (meaning self.now) state byte }
+        ensures { result ≡ role_in (meaning self.now) state byte }
     {
-        if self.class(state, byte) != class::MARK {
-            return Role::Plain;
-        }
-        match byte {
-            b'(' => Role::Opening(BracketKind::Round),
-            b')' => Role::Closing(BracketKind::Round),
-            b'[' => Role::Opening(BracketKind::Square),
-            b']' => Role::Closing(BracketKind::Square),
-            b'{' => Role::Opening(BracketKind::Curly),
-            b'}' => Role::Closing(BracketKind::Curly),
-            _ => Role::Plain,
-        }
+        role_of(self.class(state, byte), byte)
     }
 }

@@ -1,5 +1,6 @@
 // A grammar that is lent answers as the grammar itself does.
 use crate::interface::Grammar;
+use crate::step::Step;
 use automaton::role::Role;
 
 impl<G: Grammar> Grammar for &G {
@@ -21,6 +22,11 @@ impl<G: Grammar> Grammar for &G {
 
     fn is_open(&self, state: u8) -> bool {
         (**self).is_open(state)
+    }
+
+    #[inline(always)]
+    fn read(&self, state: u8, byte: u8) -> Step {
+        (**self).read(state, byte)
     }
 
     fn role(&self, state: u8, byte: u8) -> Role {

@@ -8,8 +8,10 @@ pub mod colouring;
 pub mod interface;
 pub mod lent;
 pub mod scene_words;
+pub mod step;
 
 pub use cells::colour_cells;
 pub use colouring::{colour, walk};
 pub use interface::Grammar;
 pub use scene_words::Words;
+pub use step::{Step, role_of};

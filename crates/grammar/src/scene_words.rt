@@ -1,11 +1,11 @@
 // Scene words: blanks, words, numbers and marks, the grammar at the bottom of every pile.
 ghost use Rattle.std.specs.Prelude.{◌≡◌};
-ghost use Rattle.automaton.specs.Layer.{state_among};
-ghost use Rattle.automaton.specs.Words.{words, byte_kind, word_state};
+ghost use Rattle.automaton.specs.Words.{words, byte_kind};
 ghost use Rattle.automaton.proofs.Words.{words_lawful};
 
 use crate::class;
 use crate::interface::Grammar;
+use crate::step::Step;
 use automaton::byte_kind::ByteKind;
 use automaton::word_state::WordState;
 
@@ -26,18 +26,6 @@ fn kind_of(byte: u8) -> ByteKind
     }
 }
 
-// What a number stands for, if it is a state.
-fn state_of(state: u8) -> Option<WordState>
-    ensures { result ≡ state_among words.count word_state state }
-{
-    match state {
-        0 => Some(WordState::Ground),
-        1 => Some(WordState::InWord),
-        2 => Some(WordState::InNumber),
-        _ => None,
-    }
-}
-
 impl Grammar for Words {
     ghost meaning = { λ _. words };
 
@@ -48,30 +36,35 @@ impl Grammar for Words {
     }
 
     fn step(&self, state: u8, byte: u8) -> u8 {
-        let Some(at) = state_of(state) else {
-            return state;
-        };
-        let behind = match (kind_of(byte), at) {
-            (ByteKind::Letter, _) | (ByteKind::Digit, WordState::InWord) => WordState::InWord,
-            (ByteKind::Digit, _) | (ByteKind::Point, WordState::InNumber) => WordState::InNumber,
-            (ByteKind::Blank | ByteKind::Point | ByteKind::Other, _) => WordState::Ground,
-        };
-        behind as u8
+        self.read(state, byte).behind
     }
 
     fn class(&self, state: u8, byte: u8) -> u8 {
-        let Some(at) = state_of(state) else {
-            return class::BLANK;
-        };
-        match (kind_of(byte), at) {
-            (ByteKind::Blank, _) => class::BLANK,
-            (ByteKind::Letter, _) | (ByteKind::Digit, WordState::InWord) => class::WORD,
-            (ByteKind::Digit, _) | (ByteKind::Point, WordState::InNumber) => class::NUMBER,
-            (ByteKind::Point | ByteKind::Other, _) => class::MARK,
-        }
+        self.read(state, byte).class
     }
 
     fn is_open(&self, state: u8) -> bool {
         state < COUNT
+    }
+
+    #[inline(always)]
+    fn read(&self, state: u8, byte: u8) -> Step {
+        if !self.is_open(state) {
+            return Step::outside(state);
+        }
+        let (class, behind) = match kind_of(byte) {
+            ByteKind::Blank => (class::BLANK, WordState::Ground),
+            ByteKind::Letter => (class::WORD, WordState::InWord),
+            ByteKind::Digit if state == WordState::InWord as u8 => (class::WORD, WordState::InWord),
+            ByteKind::Digit => (class::NUMBER, WordState::InNumber),
+            ByteKind::Point if state == WordState::InNumber as u8 => {
+                (class::NUMBER, WordState::InNumber)
+            }
+            ByteKind::Point | ByteKind::Other => (class::MARK, WordState::Ground),
+        };
+        Step {
+            class,
+            behind: behind as u8,
+        }
     }
 }

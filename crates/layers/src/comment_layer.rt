@@ -6,7 +6,7 @@ ghost use Rattle.automaton.proofs.Comment.{comment_lawful};
 
 use crate::layer::{LINE_FEED, begins, fitted};
 use automaton::layer_state::CommentState;
-use grammar::{Grammar, class};
+use grammar::{Grammar, Step, class};
 
 const BEGIN: u8 = b'#';
 
@@ -41,29 +41,11 @@ impl<G: Grammar> Grammar for Comment<G> {
     }
 
     fn step(&self, state: u8, byte: u8) -> u8 {
-        let Some(at) = self.state_of(state) else {
-            return state;
-        };
-        match at {
-            CommentState::Below(s) if begins(BEGIN, &self.below, s, byte) => {
-                self.below.count() + self.below.step(s, byte)
-            }
-            CommentState::Below(s) => self.below.step(s, byte),
-            CommentState::Inside(t) if byte == LINE_FEED => self.below.step(t, byte),
-            CommentState::Inside(_) => state,
-        }
+        self.read(state, byte).behind
     }
 
     fn class(&self, state: u8, byte: u8) -> u8 {
-        let Some(at) = self.state_of(state) else {
-            return class::BLANK;
-        };
-        match at {
-            CommentState::Below(s) if begins(BEGIN, &self.below, s, byte) => class::COMMENT,
-            CommentState::Below(s) => self.below.class(s, byte),
-            CommentState::Inside(t) if byte == LINE_FEED => self.below.class(t, byte),
-            CommentState::Inside(_) => class::COMMENT,
-        }
+        self.read(state, byte).class
     }
 
     fn is_open(&self, state: u8) -> bool {
@@ -71,5 +53,22 @@ impl<G: Grammar> Grammar for Comment<G> {
             Some(CommentState::Below(s)) => self.below.is_open(s),
             Some(CommentState::Inside(_)) | None => false,
         }
+    }
+
+    #[inline(always)]
+    fn read(&self, state: u8, byte: u8) -> Step {
+        let Some(at) = self.state_of(state) else {
+            return Step::outside(state);
+        };
+        let n = self.below.count();
+        let (class, behind) = match at {
+            CommentState::Below(s) if begins(BEGIN, &self.below, s, byte) => {
+                (class::COMMENT, n + self.below.step(s, byte))
+            }
+            CommentState::Below(s) => return self.below.read(s, byte),
+            CommentState::Inside(t) if byte == LINE_FEED => return self.below.read(t, byte),
+            CommentState::Inside(_) => (class::COMMENT, state),
+        };
+        Step { class, behind }
     }
 }

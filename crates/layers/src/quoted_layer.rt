@@ -7,7 +7,7 @@ ghost use Rattle.automaton.proofs.Quoted.{quoted_lawful};
 
 use crate::layer::{LINE_FEED, begins, fitted};
 use automaton::layer_state::QuotedState;
-use grammar::{Grammar, class};
+use grammar::{Grammar, Step, class};
 
 const QUOTE: u8 = b'"';
 
@@ -46,41 +46,11 @@ impl<G: Grammar> Grammar for Quoted<G> {
     }
 
     fn step(&self, state: u8, byte: u8) -> u8 {
-        let Some(at) = self.state_of(state) else {
-            return state;
-        };
-        let n = self.below.count();
-        match at {
-            QuotedState::Below(s) if begins(QUOTE, &self.below, s, byte) => {
-                n + self.below.step(s, byte)
-            }
-            QuotedState::Below(s) => self.below.step(s, byte),
-            QuotedState::Inside(t) => match byte {
-                LINE_FEED => self.below.step(t, byte),
-                QUOTE => t,
-                BACKSLASH => n + state,
-                _ => state,
-            },
-            QuotedState::Escaped(t) if byte == LINE_FEED => self.below.step(t, byte),
-            QuotedState::Escaped(t) => n + t,
-        }
+        self.read(state, byte).behind
     }
 
     fn class(&self, state: u8, byte: u8) -> u8 {
-        let Some(at) = self.state_of(state) else {
-            return class::BLANK;
-        };
-        match at {
-            QuotedState::Below(s) if begins(QUOTE, &self.below, s, byte) => class::STRING,
-            QuotedState::Below(s) => self.below.class(s, byte),
-            QuotedState::Inside(t) => match byte {
-                LINE_FEED => self.below.class(t, byte),
-                BACKSLASH => class::ESCAPE,
-                _ => class::STRING,
-            },
-            QuotedState::Escaped(t) if byte == LINE_FEED => self.below.class(t, byte),
-            QuotedState::Escaped(_) => class::ESCAPE,
-        }
+        self.read(state, byte).class
     }
 
     fn is_open(&self, state: u8) -> bool {
@@ -88,5 +58,29 @@ impl<G: Grammar> Grammar for Quoted<G> {
             Some(QuotedState::Below(s)) => self.below.is_open(s),
             Some(QuotedState::Inside(_) | QuotedState::Escaped(_)) | None => false,
         }
+    }
+
+    #[inline(always)]
+    fn read(&self, state: u8, byte: u8) -> Step {
+        let Some(at) = self.state_of(state) else {
+            return Step::outside(state);
+        };
+        let n = self.below.count();
+        let (class, behind) = match at {
+            QuotedState::Below(s) if begins(QUOTE, &self.below, s, byte) => {
+                (class::STRING, n + self.below.step(s, byte))
+            }
+            QuotedState::Below(s) => return self.below.read(s, byte),
+            QuotedState::Inside(t) | QuotedState::Escaped(t) if byte == LINE_FEED => {
+                return self.below.read(t, byte);
+            }
+            QuotedState::Inside(t) => match byte {
+                QUOTE => (class::STRING, t),
+                BACKSLASH => (class::ESCAPE, n + state),
+                _ => (class::STRING, state),
+            },
+            QuotedState::Escaped(t) => (class::ESCAPE, n + t),
+        };
+        Step { class, behind }
     }
 }

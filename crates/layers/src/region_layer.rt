@@ -6,7 +6,7 @@ ghost use Rattle.automaton.proofs.Region.{region_lawful};
 
 use crate::layer::{begins, fitted};
 use automaton::layer_state::RegionState;
-use grammar::{Grammar, class};
+use grammar::{Grammar, Step, class};
 
 const BORDER: u8 = b'`';
 
@@ -45,31 +45,11 @@ impl<G: Grammar, H: Grammar> Grammar for Region<G, H> {
     }
 
     fn step(&self, state: u8, byte: u8) -> u8 {
-        let Some(at) = self.state_of(state) else {
-            return state;
-        };
-        let n = self.below.count();
-        let m = self.inner.count();
-        match at {
-            RegionState::Below(s) if begins(BORDER, &self.below, s, byte) => {
-                n + m * self.below.step(s, byte)
-            }
-            RegionState::Below(s) => self.below.step(s, byte),
-            RegionState::Inside(t, u) if begins(BORDER, &self.inner, u, byte) => t,
-            RegionState::Inside(t, u) => n + m * t + self.inner.step(u, byte),
-        }
+        self.read(state, byte).behind
     }
 
     fn class(&self, state: u8, byte: u8) -> u8 {
-        let Some(at) = self.state_of(state) else {
-            return class::BLANK;
-        };
-        match at {
-            RegionState::Below(s) if begins(BORDER, &self.below, s, byte) => class::BORDER,
-            RegionState::Below(s) => self.below.class(s, byte),
-            RegionState::Inside(_, u) if begins(BORDER, &self.inner, u, byte) => class::BORDER,
-            RegionState::Inside(_, u) => self.inner.class(u, byte),
-        }
+        self.read(state, byte).class
     }
 
     fn is_open(&self, state: u8) -> bool {
@@ -78,5 +58,26 @@ impl<G: Grammar, H: Grammar> Grammar for Region<G, H> {
             Some(RegionState::Inside(_, u)) => self.inner.is_open(u),
             None => false,
         }
+    }
+
+    #[inline(always)]
+    fn read(&self, state: u8, byte: u8) -> Step {
+        let Some(at) = self.state_of(state) else {
+            return Step::outside(state);
+        };
+        let n = self.below.count();
+        let m = self.inner.count();
+        let (class, behind) = match at {
+            RegionState::Below(s) if begins(BORDER, &self.below, s, byte) => {
+                (class::BORDER, n + m * self.below.step(s, byte))
+            }
+            RegionState::Below(s) => return self.below.read(s, byte),
+            RegionState::Inside(t, u) if begins(BORDER, &self.inner, u, byte) => (class::BORDER, t),
+            RegionState::Inside(t, u) => {
+                let read = self.inner.read(u, byte);
+                (read.class, n + m * t + read.behind)
+            }
+        };
+        Step { class, behind }
     }
 }

@@ -1,7 +1,6 @@
 -- A table of 64 entries, and how it is filled from the first state on.
-use Rattle.std.proofs.Common.{◌≡◌, ℕ, ◌<◌, cond, ltb, List, length, get_or, sym, ◌∙◌, arith}
+use Rattle.std.proofs.Common.{◌≡◌, ℕ, ◌<◌, cond, ltb, List, length, get_or, ◌∙◌, arith}
 use Rattle.std.proofs.lemmas.List.FromFn.{length-map-range_with_len, get_or-map-range_with_len, fill_by_all}
-use Rattle.std.proofs.lemmas.Bool.{cond-false, le-ltb}
 use Rattle.measure.specs.Walk.{rows, still}
 use Rattle.measure.specs.declared.walk_reading.Entry.{Entry}
 
@@ -26,9 +25,6 @@ pub record Filled (f g : ℕ → Entry) (n : ℕ) (xs : List Entry) : Type 0 whe
   pub each : (s : ℕ) → s < 64 → get_or xs s (still 0) ≡ cond (ltb s n) (f s) (g s)
 
 module _ (f g : ℕ → Entry) where
-  pub filled_none : (xs : List Entry) → length xs ≡ 64 → ((s : ℕ) → s < 64 → get_or xs s (still 0) ≡ g s) → Filled f g 0 xs
-  filled_none xs long each = record { long = long; each = λ s h. each s h ∙ sym (cond-false (ltb s 0) (f s) (g s) (le-ltb s 0 (omega arith))) }
-
   -- Where g is right from n on, the table is done.
   pub filled_all : (n : ℕ) (xs : List Entry) (h : ℕ → Entry) → Filled f g n xs → ((s : ℕ) → s < 64 → cond (ltb s n) (f s) (g s) ≡ h s) → xs ≡ rows h
   filled_all n xs h so_far right = rows_all h xs (still 0) so_far.long (λ s k. so_far.each s k ∙ right s k)

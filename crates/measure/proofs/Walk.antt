@@ -1,6 +1,6 @@
 -- The meter of walks is lawful, its reading of a text is what `walk_reading` says, and each entry tells of the text.
-use Rattle.std.proofs.Common.{◌≡◌, ℕ, ◌+◌, ◌-◌, ◌<◌, ◌≤◌, min, cond, ltb, List, [], ◌∷◌, ◌++◌, length, sym, refl, ap, ◌∙◌, subst, ⊎_elim, arith, Some}
-use Rattle.std.proofs.lemmas.List.{length-append}
+use Rattle.std.proofs.Common.{◌≡◌, ℕ, ◌+◌, ◌-◌, ◌<◌, ◌≤◌, min, ltb, List, [], ◌∷◌, ◌++◌, length, map, take, drop, get_or, sym, refl, ap, ◌∙◌, subst, ⊎_elim, arith, Some}
+use Rattle.std.proofs.lemmas.List.{length-append, length-map, length-take-le, length-drop, get_or-map, get_or-take, get_or-drop, get_or_append_left, get_or-append_right}
 use Rattle.std.proofs.lemmas.Bool.{cases_lt, cond-true, cond-false, lt-ltb, le-ltb}
 use Rattle.automaton.specs.Automaton.{Automaton, Lawful as LawfulGrammar}
 use Rattle.automaton.specs.Bracket.{role}
@@ -10,12 +10,12 @@ use Rattle.automaton.proofs.LawsHold.{walk_stays_below}
 use Rattle.measure.specs.Measure.{reading, Lawful}
 use Rattle.measure.specs.Bounded.{longest, capped}
 use Rattle.measure.specs.Unmatched.{unmatched_closings, unmatched_openings}
-use Rattle.measure.specs.Walk.{entry, passage, walk_reading, still, over_byte, join_entries, entry_at, onward, through, join_passages, walk_measure, Tells, EntriesTell}
+use Rattle.measure.specs.Walk.{entry, passage, walk_reading, still, over_byte, join_entries, led_on, rows, entry_at, onward, through, join_passages, walk_measure, Tells, EntriesTell}
 use Rattle.measure.specs.declared.walk_reading.Entry.{Entry}
 use Rattle.measure.specs.declared.walk_reading.Passage.{Passage}
 use Rattle.measure.proofs.Measure.{reading_whole, lawful_whole}
 use Rattle.measure.proofs.Bounded.{bounded_within, bounded_over, join_said}
-use Rattle.measure.proofs.Rows.{length_rows, get_d_rows, same_rows}
+use Rattle.measure.proofs.Rows.{length_rows, get_d_rows, rows_all, same_rows}
 use Rattle.measure.proofs.Unmatched.{one_role, unmatched_some, unmatched_few, unmatched_closings_append, unmatched_openings_append, unmatched_said, outside_walk, outside_openings, outside_closings}
 
 abbrev pub entry_of : ℕ → ℕ → ℕ → Entry
@@ -71,12 +71,6 @@ module _ (a : Automaton) where
         let c = outside_closings a lawful s xs h in
         same_entry (outside_walk a lawful s xs h) (omega (arith, unmatched_some a s xs)) (omega (arith, unmatched_some a s xs))
 
-    -- Only the grammar's own states need a walk.
-    pub walk_or_still : (n s : ℕ) (xs : List ℕ) → n ≡ a.count → cond (ltb s n) (entry a s xs) (still s) ≡ entry a s xs
-    walk_or_still n s xs e =
-        ⊎_elim (λ h. cond-true (ltb s n) (entry a s xs) (still s) (lt-ltb s n h)) (λ h. cond-false (ltb s n) (entry a s xs) (still s) (le-ltb s n h) ∙ sym (outside_entry s xs (omega arith)))
-        (cases_lt s n)
-
     -- The state behind a walk that begins below 64 lies there too.
     ends_under : (s : ℕ) (xs : List ℕ) → s < 64 → walk a s xs < 64
     ends_under s xs h =
@@ -102,6 +96,32 @@ module _ (a : Automaton) where
         ∙ outside_entry s xs out
         ∙ sym (outside_entry s (xs ++ ys) out))
         (cases_lt s a.count)
+
+    -- Walks through xs that are led on through ys are walks through both; only those of the grammar move.
+    pub rows_led_on : (n : ℕ) (xs ys : List ℕ) → n ≡ a.count → length xs + length ys ≤ longest →
+        map (led_on a ys) (take n (rows (λ s. entry a s xs))) ++ drop n (rows (λ s. entry a s xs)) ≡ rows (λ s. entry a s (xs ++ ys))
+    rows_led_on n xs ys is h =
+        let walks = rows (λ s. entry a s xs) in
+        let front = map (led_on a ys) (take n walks) in
+        let whole = length_rows (λ s. entry a s xs) in
+        let few = lawful.few_states in
+        let long : length (take n walks) ≡ n = length-take-le n walks (omega arith) in
+        let first : length front ≡ n = length-map (take n walks) (led_on a ys) ∙ long in
+        let each : (s : ℕ) → s < 64 → get_or (front ++ drop n walks) s (still 0) ≡ entry a s (xs ++ ys) = λ s k.
+        ⊎_elim (λ under.
+        get_or_append_left front (drop n walks) (still 0) s (omega arith)
+        ∙ get_or-map (led_on a ys) (take n walks) s (still 0) (still 0) (omega arith)
+        ∙ ap (led_on a ys) (get_or-take n walks s (still 0) under ∙ get_d_rows (λ s. entry a s xs) s (still 0) k)
+        ∙ join_walks s xs ys h)
+        (λ out.
+        get_or-append_right front (drop n walks) n s (still 0) first out
+        ∙ get_or-drop n walks (s - n) (still 0)
+        ∙ ap (λ i. get_or walks i (still 0)) (omega arith)
+        ∙ get_d_rows (λ s. entry a s xs) s (still 0) k
+        ∙ outside_entry s xs (omega arith)
+        ∙ sym (outside_entry s (xs ++ ys) (omega arith)))
+        (cases_lt s n) in
+        rows_all (λ s. entry a s (xs ++ ys)) (front ++ drop n walks) (still 0) (length-append front (drop n walks) ∙ omega (arith, length-drop n walks)) each
 
     join_texts : (xs ys : List ℕ) → length xs + length ys ≤ longest → join_passages a.count (passage a xs) (passage a ys) ≡ passage a (xs ++ ys)
     join_texts xs ys h =

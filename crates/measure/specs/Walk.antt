@@ -42,6 +42,10 @@ join_entries e f = record {
   openings = capped (f.openings + (e.openings - min e.openings f.closings));
 }
 
+-- A walk that is led on through a text.
+abbrev pub led_on : Automaton → List ℕ → Entry → Entry
+led_on a text e = join_entries e (entry a e.end text)
+
 -- The entry of a state; a state without an entry stays.
 abbrev pub entry_at : List Entry → ℕ → Entry
 entry_at entries s = slice_index_or entries s (still s)

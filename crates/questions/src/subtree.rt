@@ -17,7 +17,7 @@ pub struct Subtree<'m, 'a, R> {
     ghost leads: { Leads memory.now link },
 }
 
-// By hand: a derive would make it Copy for an `R: Copy` alone.
+// By hand: a derive would make it Copy for an `R: Copy` alone, and a derived Clone is refused over a ghost field.
 impl<R> Copy for Subtree<'_, '_, R> {}
 
 impl<R> Clone for Subtree<'_, '_, R> {

@@ -1,16 +1,19 @@
 // Walk: a meter that walks a grammar through the bytes from every state, and keeps the brackets that stay unmatched.
-ghost use Rattle.std.specs.Prelude.{◌≡◌, ◌≤◌, ◌<◌, length};
+ghost use Rattle.std.specs.Prelude.{◌≡◌, ◌≤◌, ◌<◌, map, length};
 ghost use Rattle.automaton.specs.Automaton.{Automaton};
 ghost use Rattle.measure.specs.Bounded.{longest};
-ghost use Rattle.measure.specs.Walk.{walk_measure, rows, still as still_in, entry, entry_at, join_entries, through};
+ghost use Rattle.measure.specs.Walk.{walk_measure, rows, still as still_in, entry, entry_at, join_entries, led_on, through};
 ghost use Rattle.measure.proofs.Walk.{walk_lawful};
 
 use automaton::role::Role;
-use grammar::Grammar;
+use grammar::{Grammar, role_of};
 use measure::walk_reading::{Entry, Passage};
 use meter::Meter;
 use meter::limit::{LONGEST, length_within};
 use std::array;
+
+// Walks from all states are led on by so many bytes at a time: from many states they soon come into few.
+const STRIDE: usize = 8;
 
 #[derive(Clone, Copy)]
 pub struct Walk<G> {
@@ -60,15 +63,32 @@ impl<G: Grammar> Walk<G> {
     {
         let mut walked = Entry::still(state);
         for byte in bytes {
-            match self.grammar.role(walked.end, *byte) {
+            let read = self.grammar.read(walked.end, *byte);
+            match role_of(read.class, *byte) {
                 Role::Plain => {}
                 Role::Opening(_) => walked.openings += 1,
                 Role::Closing(_) if walked.openings > 0 => walked.openings -= 1,
                 Role::Closing(_) => walked.closings += 1,
             }
-            walked.end = self.grammar.step(walked.end, *byte);
+            walked.end = read.behind;
         }
         walked
+    }
+
+    // Leads walks on through the bytes. Neighbours that have come into one state are led on by one walk.
+    fn lead_on(&self, walks: &mut [Entry], bytes: &[u8])
+        requires { length bytes.now ≤ longest }
+        ensures { walks.new ≡ map (led_on (G.Grammar.meaning self.now.grammar) bytes.now) walks.old }
+    {
+        let mut last: Option<(u8, Entry)> = None;
+        for walk in walks.iter_mut() {
+            let onward = match last {
+                Some((from, onward)) if from == walk.end => onward,
+                _ => self.walk_from(walk.end, bytes),
+            };
+            last = Some((walk.end, onward));
+            *walk = join_entries(walk, &onward);
+        }
     }
 
     // A walk through the bytes from every state; only those of the grammar move.
@@ -78,9 +98,8 @@ impl<G: Grammar> Walk<G> {
     {
         let count = self.grammar.count() as usize;
         let mut entries = still_rows();
-        // An entry that stands still ends in the state of which it is.
-        for entry in entries[..count].iter_mut() {
-            *entry = self.walk_from(entry.end, bytes);
+        for stretch in bytes.chunks(STRIDE) {
+            self.lead_on(&mut entries[..count], stretch);
         }
         entries
     }

@@ -9,7 +9,7 @@ use crate::span::Span;
 use crate::subtree::Subtree;
 
 impl<'m, 'a, R: Copy> Subtree<'m, 'a, R> {
-    // The lowest part in which lies all that the range takes, and the range counted in it.
+    // A part in which lies all that the range takes, as low as the way down finds one, and the range counted in it.
     pub fn narrowed(self, span: Span) -> (Subtree<'m, 'a, R>, Span)
         ensures bytes { within result.1 (text_under result.0) ≡ within span (text_under self.entry) }
         ensures lower { height_of (tree_under result.0) ≤ height_of (tree_under self.entry) }

@@ -1,4 +1,4 @@
-use Rattle.std.proofs.Common.{◌≡◌, ℕ, ◌+◌, ◌-◌, ◌≤◌, List, length, take, ap, arith}
+use Rattle.std.proofs.Common.{◌≡◌, ℕ, ◌+◌, ◌-◌, ◌≤◌, List, length, take, ap, ◌∙◌, arith}
 use Rattle.std.proofs.lemmas.List.{length-take-le}
 use Rattle.automaton.specs.Automaton.{Automaton}
 use Rattle.automaton.specs.Walk.{walk}
@@ -33,11 +33,11 @@ loop-byte-preserved g c =
     let s = c.args.state in
     let bytes = c.args.bytes.now in
     let i = c.loop-byte.byte-index in
-    let r = c.role.result in
+    let r = c.role_of.result in
     let was = c.loop-byte.walked in
-    let now = c.match-role.walked in
-    let counts : (now.end ≡ was.end) × (now.closings ≡ was.closings + (closes r - was.openings)) × (now.openings ≡ opens r + (was.openings - closes r)) =
-    elim c.match-role.branch [
+    let now = c.match-role_of.walked in
+    let counts : (now.end ≡ c.read-read.result.behind) × (now.closings ≡ was.closings + (closes r - was.openings)) × (now.openings ≡ opens r + (was.openings - closes r)) =
+    elim c.match-role_of.branch [
       | in-Plain w ↦ let o = ap opens w.in-Plain.is in let k = ap closes w.in-Plain.is in let p = parts _ _ w.walked-is in (p.0, omega (arith, p.1), omega (arith, p.2))
       | in-Opening w ↦ let o = ap opens w.in-Opening.is in let k = ap closes w.in-Opening.is in let p = parts _ _ w.walked-is in (p.0, omega (arith, p.1), omega (arith, p.2))
       | in-Closing w ↦ let o = ap opens w.in-Closing.is in let k = ap closes w.in-Closing.is in let p = parts _ _ w.walked-is in (p.0, omega (arith, p.1), omega (arith, p.2))
@@ -48,10 +48,11 @@ loop-byte-preserved g c =
     let closed = so_far.1 in
     let opened = so_far.2 in
     let stays = counts.0 in
-    let part = c.role.ensures in
-    let next = c.step.ensures in
+    let part = c.role_of.ensures in
+    let read = c.read-read.ensures.class in
+    let next = c.read-read.ensures.behind in
     let walked = walk_more a s bytes i c.loop-byte-test.true in
     let more = closings_more a s bytes i c.loop-byte-test.true in
     let more' = openings_more a s bytes i c.loop-byte-test.true in
-    let ends : c.step.result ≡ walk a s (take (i + 1) bytes) = cc in
-    same_entry ends (cc counts.1) (cc counts.2)
+    let ends : c.read-read.result.behind ≡ walk a s (take (i + 1) bytes) = cc in
+    same_entry (stays ∙ ends) (cc counts.1) (cc counts.2)

@@ -1,24 +1,34 @@
-use Rattle.std.proofs.Common.{◌≡◌, ◌++◌, take, drop, length, get_or, ap, ◌∙◌, arith}
-use Rattle.std.proofs.lemmas.List.{length-take-le, take-append-drop}
-use Rattle.measure.specs.Walk.{rows, still, entry}
-use Rattle.measure.proofs.Rows.{length_rows, get_d_rows, filled_none, filled_all}
-use Rattle.measure.proofs.Walk.{walk_or_still}
+use Rattle.std.proofs.Common.{◌++◌, length, take, drop, map, sym, ap, ◌∙◌, arith}
+use Rattle.std.proofs.lemmas.List.{length-append, append_assoc}
+use Rattle.std.specs.Slice.Iter.{chunks_rest}
+use Rattle.measure.specs.Walk.{led_on}
+use Rattle.measure.proofs.Walk.{rows_led_on}
 use Rattle.walks.proofs.walk_meter.Walk.walk_rows.Goals as goal
 
-pub loop-entry-init : goal.loop-entry-init
-loop-entry-init g c =
+pub loop-stretch-preserved : goal.loop-stretch-preserved
+loop-stretch-preserved g c =
     let a = g.G.Grammar.meaning c.args.self.now.grammar in
     let n = c.count-count.result in
-    let whole = ap (λ xs. take n xs ++ drop n (rows still)) c.still_rows-entries.ensures ∙ take-append-drop n (rows still) in
-    filled_none (λ s. entry a s c.args.bytes.now) still (take n c.still_rows-entries.result ++ drop n (rows still)) (ap length whole ∙ length_rows still)
-    (λ s h. ap (λ xs. get_or xs s (still 0)) whole ∙ get_d_rows still s (still 0) h)
-
-pub returns : goal.returns
-returns g c =
-    let a = g.G.Grammar.meaning c.args.self.now.grammar in
-    let lawful = g.G.Grammar.lawful c.args.self.now.grammar in
-    let bytes = c.args.bytes.now in
-    let n = c.loop-entry.entry-index in
-    let made = c.still_rows-entries.ensures in
-    let all : n ≡ a.count = omega (arith, length-take-le c.count-count.result c.still_rows-entries.result (omega (arith, ap length made, length_rows still))) in
-    ap (λ xs. c.loop-entry.entry-items ++ drop c.count-count.result xs) made ∙ filled_all (λ s. entry a s bytes) still n (c.loop-entry.entry-items ++ drop c.count-count.result (rows still)) (λ s. entry a s bytes) c.loop-entry.invariant (λ s h. walk_or_still a lawful n s bytes all)
+    let loop = c.loop-stretch.invariant in
+    let next = c.in-Some.ensures.steps in
+    let read = loop.so_far.0 in
+    let stretch = c.in-Some.stretch.now in
+    let rest = chunks_rest c.next.new.self in
+    let cut_off = next.1.0 in
+    let whole = loop.so_far.1.0 in
+    let all = append_assoc read stretch rest ∙ ap (λ l. read ++ l) (sym cut_off) ∙ whole in
+    let short = ap length whole in
+    let total = length-append read (chunks_rest c.loop-stretch.stretch-iterator) in
+    let piece = ap length cut_off ∙ length-append stretch rest in
+    record {
+      strides = next.0 ∙ loop.strides;
+      so_far = (
+        read ++ stretch,
+        (
+          all,
+          ap (λ l. l ++ drop n c.loop-stretch.entries) c.lead_on.ensures
+              ∙ ap (λ l. map (led_on a stretch) (take n l) ++ drop n l) loop.so_far.1.1
+              ∙ rows_led_on a (g.G.Grammar.lawful c.args.self.now.grammar) n read stretch c.count-count.ensures (omega (arith, c.requires)),
+        ),
+      );
+    }
