@@ -38,14 +38,15 @@ fn reading_of<R: Copy, M: Meter<Reading = R>>(
 {
     let slots = &*memory.slots;
     let readings = &*memory.readings;
-    let mut sum = slots[i as usize].own;
-    if let Some(l) = left {
-        sum = meter.join(&readings[l as usize], &sum);
+    let own = &slots[i as usize].own;
+    let front = match left {
+        Some(l) => meter.join(&readings[l as usize], own),
+        None => *own,
+    };
+    match right {
+        Some(r) => meter.join(&front, &readings[r as usize]),
+        None => front,
     }
-    if let Some(r) = right {
-        sum = meter.join(&sum, &readings[r as usize]);
-    }
-    sum
 }
 
 // How large the tree is that slot `i` makes with two others.
