@@ -5,3 +5,4 @@ pub mod Painting
 pub mod Refusing
 pub mod Turns
 pub mod Buffers
+pub mod Scripts

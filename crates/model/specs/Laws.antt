@@ -1,18 +1,19 @@
 -- What the definitions come to, as relations. Each law stands on the contract of a function of src/laws.rt, so that it is proved.
-use Rattle.std.specs.Prelude.{◌≡◌, ℕ, ◌≤◌, true, Decides, List, [], ◌++◌, length, take, drop, Some, None}
+use Rattle.std.specs.Prelude.{◌≡◌, ℕ, ◌<◌, ◌≤◌, true, Decides, List, [], ◌∷◌, ◌++◌, length, take, drop, Some, None}
 use Rattle.automaton.specs.Automaton.{Automaton}
 use Rattle.automaton.specs.Walk.{colours}
 use Rattle.chunks.specs.Cut.{joined}
 use Rattle.model.specs.declared.change.Change.{Change}
 use Rattle.model.specs.declared.replacement.Replacement.{Replacement}
 use Rattle.model.specs.Calls.{open_refusal, edit_refusal, paint_refusal, close_refusal, range_refusal, extent_refusal, place_refusal, spot_refusal, partner_refusal, opened, edited, settled, screen_refusal, fits, with_front, begins}
+use Rattle.model.specs.declared.refusal.Refusal.{Refusal}
 use Rattle.model.specs.declared.refusal.Refusal.TheVariants.{OpenedBefore, DueStands}
 use Rattle.model.specs.Edit.{edited_text, edited_chunks}
 use Rattle.model.specs.End.{edit_change, EndsFirst}
 use Rattle.model.specs.Model.{Model, text_of}
 use Rattle.model.specs.Paint.{painted}
 use Rattle.model.specs.Reasons.{Taken, NeedsRange, OpenNeeds, EditNeeds, PaintNeeds, CloseNeeds, ReadNeeds, PlaceNeeds, SpotNeeds, PartnerNeeds, RecordNeeds}
-use Rattle.model.specs.Script.{record_refusal}
+use Rattle.model.specs.Script.{record_refusal, recorded, record_painted, Scripted, scripted, script_screen}
 
 -- However the text is cut into chunks, an edit leaves it with the new bytes in the place of the range's.
 abbrev pub EditLeavesText : Type 0
@@ -70,3 +71,24 @@ SameCompares = (text : List ℕ) (at : ℕ) (given : List ℕ) → Decides (begi
 pub record FrontIsWritten (part buffer : List ℕ) : Type 0 where
   pub front : take (length part) (with_front part buffer) ≡ part
   pub rest : drop (length part) (with_front part buffer) ≡ drop (length part) buffer
+
+-- What records leave that are done one after another, of the document and on the screen.
+abbrev pub behind : List ℕ → Model → List Replacement → Model
+behind given m [] = m
+behind given m (r ∷ rs) = behind given (recorded given m r) rs
+
+abbrev pub shown_behind : Automaton → List ℕ → Model → List ℕ → List Replacement → List ℕ
+shown_behind a given m screen [] = screen
+shown_behind a given m screen (r ∷ rs) = shown_behind a given (recorded given m r) (record_painted a given m screen r) rs
+
+-- A script does all the records before the first that is refused, and no other.
+pub record StopsAtRefused (cells : ℕ) (given : List ℕ) (m : Model) (rs : List Replacement) (s : Scripted) : Type 0 where
+  pub after : s.after ≡ behind given m (take s.done rs)
+  pub taken : (k : ℕ) (r : Replacement) (rest : List Replacement) → k < s.done → drop k rs ≡ r ∷ rest → record_refusal cells given (behind given m (take k rs)) r ≡ None
+  pub all_done : s.refused ≡ None → s.done ≡ length rs
+  pub stopped : (refusal : Refusal) → s.refused ≡ Some refusal → (r : Replacement) × ((rest : List Replacement) × (drop s.done rs ≡ r ∷ rest)) × (record_refusal cells given s.after r ≡ Some refusal)
+
+pub record ScriptsStopAtRefused : Type 0 where
+  pub stops : (cells : ℕ) (given : List ℕ) (m : Model) (rs : List Replacement) → StopsAtRefused cells given m rs (scripted cells given m rs)
+  pub paints : (a : Automaton) (cells : ℕ) (given : List ℕ) (m : Model) (screen : List ℕ) (rs : List Replacement) →
+      script_screen a cells given m screen rs ≡ shown_behind a given m screen (take (scripted cells given m rs).done rs)

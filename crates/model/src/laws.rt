@@ -1,6 +1,6 @@
 // The laws of a document's calls: each is what a function here ensures, so that its proof is asked for.
 ghost use Rattle.std.specs.Prelude.{ℕ, List};
-ghost use Rattle.model.specs.Laws.{EditLeavesText, EditEndsFirst, PaintingShowsText, CallsAreRefusedInOrder, CallsTakeTurns, ChangesFit, SameCompares, FrontIsWritten};
+ghost use Rattle.model.specs.Laws.{EditLeavesText, EditEndsFirst, PaintingShowsText, CallsAreRefusedInOrder, CallsTakeTurns, ChangesFit, SameCompares, FrontIsWritten, ScriptsStopAtRefused};
 
 #[tactic(auto, using(crate::proofs::Editing::edit_leaves_text))]
 pub fn edit_leaves_text()
@@ -40,4 +40,9 @@ pub fn same_compares()
 #[tactic(auto, using(crate::proofs::Buffers::front_is_written))]
 pub fn front_is_written()
     ensures { (part buffer : List ℕ) → FrontIsWritten part buffer }
+{}
+
+#[tactic(auto, using(crate::proofs::Scripts::scripts_stop_at_refused))]
+pub fn scripts_stop_at_refused()
+    ensures { ScriptsStopAtRefused }
 {}
