@@ -1,11 +1,12 @@
 -- A script stops at the first record that is refused: by its records, one after another.
-use Rattle.std.proofs.Common.{◌≡◌, ℕ, zero, suc, ◌<◌, List, [], ◌∷◌, take, drop, Some, None, Option, refl, sym, ap, ◌∙◌, arith}
+use Rattle.std.proofs.Common.{◌≡◌, ℕ, zero, suc, ◌+◌, ◌-◌, ◌<◌, ◌≤◌, List, [], ◌∷◌, ◌++◌, take, drop, Some, None, Option, refl, sym, ap, ◌∙◌, arith}
+use Rattle.std.proofs.lemmas.List.{take-append-drop, drop-drop}
 use Rattle.automaton.specs.Automaton.{Automaton}
 use Rattle.model.specs.declared.refusal.Refusal.{Refusal}
 use Rattle.model.specs.declared.replacement.Replacement.{Replacement}
-use Rattle.model.specs.Laws.{behind, shown_behind, StopsAtRefused, ScriptsStopAtRefused}
+use Rattle.model.specs.Laws.{behind, shown_behind, StopsAtRefused, PartLies, ScriptsStopAtRefused}
 use Rattle.model.specs.Model.{Model}
-use Rattle.model.specs.Script.{record_refusal, recorded, record_painted, Scripted, stopped_or, scripted, screen_or, script_screen}
+use Rattle.model.specs.Script.{part_of, record_refusal, recorded, record_painted, Scripted, stopped_or, scripted, screen_or, script_screen}
 
 head_of : (r q : Replacement) (rs rest : List Replacement) → r ∷ rs ≡ q ∷ rest → r ≡ q
 head_of r q rs rest e = cc
@@ -52,8 +53,17 @@ module _ (cells : ℕ) (given : List ℕ) where
         let painted = record_painted a given m screen r in
         one_painted m screen r rs (script_screen a cells given next painted rs) (scripted cells given next rs) (record_refusal cells given m r) (paints next painted rs)
 
+part_lies : (given : List ℕ) (r : Replacement) → r.start ≤ r.end → PartLies given r
+part_lies given r forward =
+    let n = r.end - r.start in
+    let ends : r.end ≡ r.start + n = omega arith in
+    let behind_it : drop r.end given ≡ drop n (drop r.start given) = ap (λ k. drop k given) ends ∙ sym (drop-drop n r.start given) in
+    let rest : part_of given r ++ drop r.end given ≡ drop r.start given = ap (λ l. take n (drop r.start given) ++ l) behind_it ∙ take-append-drop n (drop r.start given) in
+    sym (ap (λ l. take r.start given ++ l) rest ∙ take-append-drop r.start given)
+
 pub scripts_stop_at_refused : ScriptsStopAtRefused
 scripts_stop_at_refused = record {
+  parts = part_lies;
   stops = stops;
   paints = λ a cells given m screen rs. paints cells given a m screen rs;
 }

@@ -38,4 +38,7 @@ calls_take_turns = record {
   due_is_found = λ m c from to cells new. let behind = edited m from to new c in cond-true (same_change c c) (screen_refusal behind c cells) (Some (UnknownDue c.place)) (own_due c);
   paint_settles = λ m. refl;
   paint_keeps = λ m. refl;
+  open_is_lent = λ m. record { slots = refl; store = refl; readings = refl };
+  edit_is_lent = λ m c from to new. (record { slots = refl; store = refl; readings = refl }, refl);
+  paint_is_lent = λ m. (record { slots = refl; store = refl; readings = refl }, refl);
 }

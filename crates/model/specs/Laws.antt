@@ -13,7 +13,7 @@ use Rattle.model.specs.End.{edit_change, EndsFirst}
 use Rattle.model.specs.Model.{Model, text_of}
 use Rattle.model.specs.Paint.{painted}
 use Rattle.model.specs.Reasons.{Taken, NeedsRange, OpenNeeds, EditNeeds, PaintNeeds, CloseNeeds, ReadNeeds, PlaceNeeds, SpotNeeds, PartnerNeeds, RecordNeeds}
-use Rattle.model.specs.Script.{record_refusal, recorded, record_painted, Scripted, scripted, script_screen}
+use Rattle.model.specs.Script.{part_of, record_refusal, recorded, record_painted, Scripted, scripted, script_screen}
 
 -- However the text is cut into chunks, an edit leaves it with the new bytes in the place of the range's.
 abbrev pub EditLeavesText : Type 0
@@ -48,6 +48,12 @@ pub record CallsAreRefusedInOrder : Type 0 where
   pub partners : (m : Model) (a : Automaton) (at : ℕ) → PartnerNeeds m a at (partner_refusal a m at)
   pub records : (m : Model) (cells : ℕ) (given : List ℕ) (r : Replacement) → RecordNeeds m cells given r (record_refusal cells given m r)
 
+-- As much memory is lent as before.
+pub record SameLent (m after : Model) : Type 0 where
+  pub slots : after.slots ≡ m.slots
+  pub store : after.store ≡ m.store
+  pub readings : after.readings ≡ m.readings
+
 -- What a call leaves for the next: OPEN an empty text that is not opened again; EDIT the new text and a due that stands until it is
 -- painted, whose own numbers find it; PAINT the text, and no due.
 pub record CallsTakeTurns : Type 0 where
@@ -58,6 +64,9 @@ pub record CallsTakeTurns : Type 0 where
   pub due_is_found : (m : Model) (c : Change) (from to cells : ℕ) (new : List ℕ) → let behind = edited m from to new c in paint_refusal behind c cells ≡ screen_refusal behind c cells
   pub paint_settles : (m : Model) → close_refusal (settled m) ≡ None
   pub paint_keeps : (m : Model) → text_of (settled m) ≡ text_of m
+  pub open_is_lent : (m : Model) → SameLent m (opened m)
+  pub edit_is_lent : (m : Model) (c : Change) (from to : ℕ) (new : List ℕ) → let behind = edited m from to new c in SameLent m behind × (behind.usable ≡ m.usable)
+  pub paint_is_lent : (m : Model) → SameLent m (settled m) × ((settled m).usable ≡ m.usable)
 
 -- The change of every edit fits the text that the edit leaves.
 abbrev pub ChangesFit : Type 0
@@ -88,7 +97,12 @@ pub record StopsAtRefused (cells : ℕ) (given : List ℕ) (m : Model) (rs : Lis
   pub all_done : s.refused ≡ None → s.done ≡ length rs
   pub stopped : (refusal : Refusal) → s.refused ≡ Some refusal → (r : Replacement) × ((rest : List Replacement) × (drop s.done rs ≡ r ∷ rest)) × (record_refusal cells given s.after r ≡ Some refusal)
 
+-- The part of a record lies in the text given from its start up to its end.
+abbrev pub PartLies : List ℕ → Replacement → Type 0
+PartLies given r = given ≡ take r.start given ++ (part_of given r ++ drop r.end given)
+
 pub record ScriptsStopAtRefused : Type 0 where
+  pub parts : (given : List ℕ) (r : Replacement) → r.start ≤ r.end → PartLies given r
   pub stops : (cells : ℕ) (given : List ℕ) (m : Model) (rs : List Replacement) → StopsAtRefused cells given m rs (scripted cells given m rs)
   pub paints : (a : Automaton) (cells : ℕ) (given : List ℕ) (m : Model) (screen : List ℕ) (rs : List Replacement) →
       script_screen a cells given m screen rs ≡ shown_behind a given m screen (take (scripted cells given m rs).done rs)
