@@ -1,3 +1,4 @@
 pub mod Depth
 pub mod Nearest
 pub mod Paired
+pub mod Agreement

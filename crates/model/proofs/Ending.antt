@@ -1,13 +1,13 @@
 -- The end of an edit is the first place where the walks share a state.
 use Rattle.std.proofs.Common.{◌≡◌, ℕ, zero, suc, ◌+◌, ◌-◌, ◌<◌, ◌≤◌, eqb, ◌⊎◌, List, [], ◌∷◌, ◌++◌, length, take, drop, sym, refl, ap, ◌∙◌, subst, inl, inr, ⊎_elim, arith, take-add}
 use Rattle.std.proofs.lemmas.List.{length-append, length-drop, length-take-le, drop_at, append_assoc}
-use Rattle.std.proofs.lemmas.Bool.{cases_eq, cond-true, cond-false, eq-eqb, ne_eqb}
+use Rattle.std.proofs.lemmas.Bool.{cases_eq, cond-true, cond-false, eq-eqb, ne_eqb, and_from, le-leb}
 use Rattle.automaton.specs.Automaton.{Automaton}
 use Rattle.automaton.specs.Walk.{walk, state_before}
 use Rattle.automaton.proofs.Walk.{walk_append}
 use Rattle.model.specs.Edit.{edited_text}
 use Rattle.model.specs.End.{apart, edit_end, edit_change, EndsFirst}
-use Rattle.model.specs.Laws.{EditEndsFirst}
+use Rattle.model.specs.Laws.{EditEndsFirst, ChangesFit}
 
 -- Two walks from s and t through bytes: they differ up to d, and share a state there, unless the bytes end.
 pub record PartsUntil (a : Automaton) (s t : ℕ) (bytes : List ℕ) (d : ℕ) : Type 0 where
@@ -82,3 +82,9 @@ module _ (text : List ℕ) (from to : ℕ) (new : List ℕ) (forward : from ≤ 
 
 pub edit_ends_first : EditEndsFirst
 edit_ends_first a text from to new forward inside = ends_first text from to new forward inside a
+
+-- What comes first is within the text.
+pub changes_fit : ChangesFit
+changes_fit a text from to new forward inside =
+    let e = ends_first text from to new forward inside a in
+    and_from _ _ (le-leb _ _ e.behind) (le-leb _ _ e.within)

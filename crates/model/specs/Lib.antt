@@ -6,4 +6,5 @@ pub mod Paint
 pub mod Model
 pub mod Calls
 pub mod Script
+pub mod Reasons
 pub mod Laws
