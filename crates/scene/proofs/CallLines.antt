@@ -1,5 +1,5 @@
 -- Each call has its line.
-use Rattle.std.proofs.Common.{◌≡◌, ℕ, List, [], Some, refl, arith}
+use Rattle.std.proofs.Common.{ℕ, List, [], refl, arith}
 use Rattle.std.specs.List.{slice_index_or}
 use Rattle.hosting.specs.Conversing.{lines_of}
 use Rattle.session.specs.declared.call_name.CallName.TheVariants.{Open, Edit, Paint, Close, Text, Colours, Size, Screen, Script, Range, Same, Place, Spot, Partner}
