@@ -1,19 +1,25 @@
-// The scene text server at a terminal or a pipe: a session, one call a line; or, with an option that names a report, one on a text.
+// The scene text server at a terminal or a pipe: a session, one call a line; with an option that names a report, one on a text;
+// or the help.
 
 #![tactic(auto)]
 
 use anyhow::ensure;
+use help::write_help;
 use hosting::{Options, run_session};
 use one_shot::{Task, report_on_input};
 use refusal::{Refusal, told};
 use std::env;
 
+mod help;
 mod one_shot;
 mod refusal;
 
 fn main(rt: HostRuntime) -> anyhow::Result<()> {
     let words: Vec<String> = env::args(&rt)?.skip(1).collect(rt.alloc())?;
     let words: Vec<&str> = words.iter().map(|word| word.as_str()).collect(rt.alloc())?;
+    if words.iter().any(|word| *word == "--help") {
+        return Ok(write_help(&rt)?);
+    }
     if words.iter().any(|word| Task::named(word).is_some()) {
         return report_on_input(&rt, &words);
     }

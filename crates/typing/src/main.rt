@@ -1,4 +1,4 @@
-// Types a scene by the calls that hand a pass and a due on, and shows the text and its screen after each edit.
+// Types a scene by the calls that hand a pass and a due on, shows the text and its screen after each edit, and asks for a bracket.
 // A print that fails waits until the last pass is spent: a `?` before that would lose one, which the check refuses.
 
 #![tactic(auto)]
@@ -8,6 +8,7 @@ ghost use Rattle.model.specs.Calls.{paint_refusal};
 ghost use Rattle.document.specs.Content.{model_of};
 ghost use Rattle.typing.specs.declared.TheConstants.{CELLS};
 
+use brackets::Partner;
 use document::{Document, Due, Pass, Refused};
 use editing::Readings;
 use grammar::Words;
@@ -92,6 +93,18 @@ impl Scene<'_> {
         out.push(b'\n')?;
         rt.stdout().write_all(&out)
     }
+
+    // The line and the column of a place, and where the partner of the bracket there stands.
+    fn ask(&self, rt: &HostRuntime, place: u32) -> io::Result<()> {
+        let position = self.document.place(&scene_meter(), place);
+        let partner = self.document.partner(&scene_meter(), place);
+        match (position, partner) {
+            (Ok((line, column)), Ok(Some(Partner { place: other, .. }))) => {
+                println!(rt; "{place}: line {line}, column {column}, partner at {other}")
+            }
+            _ => println!(rt; "{place}: no bracket with a partner"),
+        }
+    }
 }
 
 fn main(rt: HostRuntime) -> io::Result<()> {
@@ -105,12 +118,13 @@ fn main(rt: HostRuntime) -> io::Result<()> {
         Ok(pass) => pass,
         Err(refusal) => return println!(rt; "refused {}", refusal.number()),
     };
-    let pass = scene.edit(pass, 0, 0, "wall 2.5 m # oak");
+    let pass = scene.edit(pass, 0, 0, "wall (2.5 m) # oak");
     let first = scene.show(&rt);
-    let pass = scene.edit(pass, 11, 12, "");
+    let pass = scene.edit(pass, 13, 14, "");
     let second = scene.show(&rt);
     let pass = scene.edit(pass, 90, 95, "beyond the end");
     let third = scene.show(&rt);
+    let asked = scene.ask(&rt, 11);
     scene.close(pass);
-    first.and(second).and(third)
+    first.and(second).and(third).and(asked)
 }

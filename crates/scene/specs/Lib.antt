@@ -1,0 +1,2 @@
+-- What is stated of the program's help.
+pub mod Help
