@@ -5,5 +5,6 @@ pub mod End
 pub mod Paint
 pub mod Model
 pub mod Calls
+pub mod SomeWalk
 pub mod Script
 pub mod Laws
