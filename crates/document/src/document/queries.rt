@@ -1,5 +1,5 @@
 // The questions that need no pass: they change nothing but what they are lent to write to.
-ghost use Rattle.std.specs.Prelude.{◌≡◌, IfOk, OnErr, OnOk};
+ghost use Rattle.std.specs.Prelude.{◌≡◌, ◌≤◌, length, IfOk, OnErr, OnOk};
 ghost use Rattle.std.specs.List.{between};
 ghost use Rattle.measure.specs.Measure.{reading as reading_of};
 ghost use Rattle.model.specs.Calls.{answered, refusal_in, extent_refusal, place_refusal, spot_refusal, partner_refusal, but_bracket, begins as begins_at};
@@ -50,6 +50,7 @@ impl<X: Copy> Document<'_, Readings<X>> {
         column: u32,
     ) -> Result<u32, Refusal>
         ensures decides { refusal_in result ≡ spot_refusal (model_of self.now) line }
+        ensures within { IfOk result (λ p. p ≤ length (text_of self.now)) }
         ensures finds { IfOk result (λ p. Keeps self.now (scale_of G.meaning H.scale meter.now) → p ≡ spot_in (text_of self.now) line column) }
     {
         if line > self.lines {
