@@ -107,9 +107,6 @@ steps_more Done before [] (s ∷ steps) here after r rest so is c = absurd so
 steps_more Done before (q ∷ rs) (s ∷ steps) here after r rest so is c = (so.0, steps_more Done s rs steps here after r rest so.1 is c)
 
 module _ {R : Type 0} (Done : Replacement → Snapshot R → Snapshot R → Type 0) (records : List Replacement) where
-  pub no_steps : (first : Document R) (screen : List ℕ) → AllSteps Done records 0 first screen first screen
-  no_steps first screen buffer reading = record { each = []; as_many = refl; stepwise = refl }
-
   pub one_step : (i : ℕ) (r : Replacement) (rest : List Replacement) → drop i records ≡ r ∷ rest → (first : Document R) (screen_first : List ℕ) (now : Document R) (screen : List ℕ) (after : Document R) (screen_after : List ℕ) →
       ((buffer : List ℕ) (reading : R) → Done r (lying buffer reading now screen) (lying buffer reading after screen_after)) → AllSteps Done records i first screen_first now screen → AllSteps Done records (i + 1) first screen_first after screen_after
   one_step i r rest next first screen_first now screen after screen_after done steps buffer reading =

@@ -133,6 +133,12 @@ but_readings (answer.Partner found) = answer.Partner None
 but_readings (answer.Refused (NoBracket at)) = answer.Partner None
 but_readings k = k
 
+-- What SPOT finds lies in the text, and a live bracket that PARTNER misses is missed at the place asked for.
+abbrev pub FoundInText : List ℕ → Call → Answer → Type 0
+FoundInText t (call.Spot line column) (answer.Spot at) = at ≤ length t
+FoundInText t (call.Partner place) (answer.Refused (NoBracket at)) = at ≡ place
+FoundInText t k told = Unit {0}
+
 -- What is left where a call is not refused, whatever the readings are.
 module _ {R : Type 0} (a : Automaton) (s : Snapshot R) where
   -- EDIT leaves the due that it answers.
@@ -158,7 +164,7 @@ module _ {R : Type 0} (a : Automaton) (s : Snapshot R) where
 -- rules say, but for what readings tell, and where it is refused it leaves everything.
 pub record ObeysInText {R : Type 0} (a : Automaton) (before : Snapshot R) (e : Entry R) : Type 0 where
   pub answer_is : but_readings e.answer ≡ but_readings (replied (refusal_of a before e.call) (answer_done a before e.call))
-  pub spot_within : (at : ℕ) → e.answer ≡ answer.Spot at → at ≤ length (text before.document)
+  pub found_so : FoundInText (text before.document) e.call e.answer
   pub model_is : model_of e.after.document ≡ left_by (refusal_of a before e.call) (model_of before.document) (model_told a before e.call e.answer)
   pub screen_is : refusal_of a before e.call ≡ None → ScreenInText a before e.call e.after
   pub buffer_is : refusal_of a before e.call ≡ None → BufferInText a before e.call e.after

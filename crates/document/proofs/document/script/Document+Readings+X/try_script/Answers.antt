@@ -1,4 +1,4 @@
-use Rattle.std.proofs.Common.{◌≡◌, ℕ, ◌+◌, ◌<◌, ◌≤◌, true, false, List, length, is_ok, IfOk, OnErr, Some, None, Ok, Err, Result, get_or, sym, refl, ap, ◌∙◌, arith}
+use Rattle.std.proofs.Common.{◌≡◌, ℕ, ◌+◌, ◌<◌, ◌≤◌, true, false, List, length, is_ok, IfOk, OnErr, None, Ok, Err, Result, get_or, sym, refl, ap, ◌∙◌, arith}
 use Rattle.editing.specs.Content.{document_measure}
 use Rattle.std.proofs.lemmas.Bool.{false≢true}
 use Rattle.model.specs.declared.refusal.Refusal.{Refusal}
