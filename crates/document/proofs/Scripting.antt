@@ -170,5 +170,5 @@ module _ {R : Type 0} (a : Automaton) (given : List ℕ) (records : List Replace
         kept = kept;
         screens = s.screens ∙ screens_more (length screen_first) given records i r d some is a (model_of now) (model_of after) screen screen_after same left shown;
         steps = one_step (CarriedTo a given (λ t. Keeps t.document μ)) records i r (drop (i + 1) records) (next_record (length screen) given records i r d some is) first screen_first now screen after screen_after
-                (λ buffer reading. (record { in_text = in_text buffer reading; screen_is = shown; names_its_end = ends_so a given r (length screen) now after none left }, kept)) s.steps;
+            (λ buffer reading. (record { in_text = in_text buffer reading; screen_is = shown; names_its_end = ends_so a given r (length screen) now after none left }, kept)) s.steps;
       }

@@ -27,8 +27,8 @@ returns-clause-anyway g c =
     record {
       state = some.state;
       is = repainted_with (length text) screen moved c.copy_colours.new.out (colours_from a some.state bytes) change parts.0 parts.1 (omega arith) (omega arith)
-           (c.copy_within.ensures.after ∙ ap (λ n. paste screen change.end (drop (length_before change change.end) screen) (length_before change n - length_before change change.end)) all)
-           c.copy_within.ensures.len some.is (colours_length a some.state bytes ∙ length-between text change.place change.end parts.1);
+          (c.copy_within.ensures.after ∙ ap (λ n. paste screen change.end (drop (length_before change change.end) screen) (length_before change n - length_before change change.end)) all)
+          c.copy_within.ensures.len some.is (colours_length a some.state bytes ∙ length-between text change.place change.end parts.1);
     }
 
 pub returns-clause-painted : goal.returns-clause-painted
