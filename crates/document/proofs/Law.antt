@@ -1,8 +1,6 @@
 -- The law over logs: a call that does as the rules say keeps a log lawful.
 use Rattle.std.proofs.Common.{◌≡◌, ℕ, ◌≤◌, true, ◌&&◌, eqb, leb, List, [], ◌∷◌, length, Some, None, Ok, Err, Option, Result, sym, refl, ap, ◌∙◌, subst, arith}
 use Rattle.std.proofs.lemmas.Bool.{and_parts, eqb-true, leb-true}
-use Rattle.std.specs.List.{AllByRecursion}
-use Rattle.std.proofs.lemmas.List.Elements.{All-from_recursion, recursion_from_All}
 use Rattle.automaton.specs.Automaton.{Automaton}
 use Rattle.chunks.specs.Cut.{joined}
 use Rattle.chunks.specs.Tree.{Balanced, height}
@@ -34,7 +32,7 @@ use Rattle.document.specs.declared.call.Answer.TheVariants as answer
 use Rattle.document.specs.Content.{model_of, text, Keeps}
 use Rattle.document.specs.Snapshot.{Snapshot}
 use Rattle.document.specs.declared.document.script.RecordRefusal.{RecordRefusal}
-use Rattle.document.specs.Records.{script_result, Carried, Stepwise}
+use Rattle.document.specs.Records.{script_result, Carried, CarriedTo, Stepwise}
 use Rattle.document.specs.Log.{Entry, script_answer, script_of, refusal_of, answer_done, model_done, screen_done, replied, left_by, Obeys, ByRecords, NamesItsEnd, Stands, New, latest, Follows}
 use Rattle.document.proofs.Opening.{none_usable, openable}
 use Rattle.document.proofs.Records.{no_due, record_accepted}
@@ -240,23 +238,22 @@ log_stands a μ first (e ∷ log) f = f.1.1.1.0
 carried_pending : {R : Type 0} (a : Automaton) (given : List ℕ) (r : Replacement) (before after : Snapshot R) → Carried a given r before after → Pending a before → Pending a after
 carried_pending a given r before after c p =
     let m = model_of before.document in
-    pending_by a (recorded given m r) (model_of after.document) (record_painted a given m before.screen r) after.screen c.model_is c.screen_is
-    (record_pending a given m before.screen r (length before.screen) refl c.accepted p)
+    pending_by a (recorded given m r) (model_of after.document) (record_painted a given m before.screen r) after.screen c.in_text.model_is c.screen_is
+    (record_pending a given m before.screen r (length before.screen) refl c.in_text.accepted p)
 
-steps_stand : {R : Type 0} (a : Automaton) (μ : Measure R) (given : List ℕ) (before : Snapshot R) (rs : List Replacement) (steps : List (Snapshot R)) (after : Snapshot R) → Stepwise a given before rs steps after →
-    Pending a before → AllByRecursion (λ s. Keeps s.document μ) steps → AllByRecursion (Stands a μ) steps
-steps_stand a μ given before rs [] after stepwise p kept = tt
-steps_stand a μ given before [] (s ∷ steps) after stepwise p kept = absurd stepwise
-steps_stand a μ given before (r ∷ rs) (s ∷ steps) after stepwise p kept =
-    let here = carried_pending a given r before s stepwise.0 p in
-    (stands_so a μ s here kept.0, steps_stand a μ given s rs steps after stepwise.1 here kept.1)
+steps_stand : {R : Type 0} (a : Automaton) (μ : Measure R) (given : List ℕ) (before : Snapshot R) (rs : List Replacement) (steps : List (Snapshot R)) (after : Snapshot R) →
+    Stepwise (CarriedTo a given (λ s. Keeps s.document μ)) before rs steps after → Pending a before → Stepwise (CarriedTo a given (Stands a μ)) before rs steps after
+steps_stand a μ given before rs [] after stepwise p = stepwise
+steps_stand a μ given before [] (s ∷ steps) after stepwise p = absurd stepwise
+steps_stand a μ given before (r ∷ rs) (s ∷ steps) after stepwise p =
+    let here = carried_pending a given r before s stepwise.0.0 p in
+    ((stepwise.0.0, stands_so a μ s here stepwise.0.1), steps_stand a μ given s rs steps after stepwise.1 here)
 
 by_records : {R : Type 0} (a : Automaton) (μ : Measure R) (before : Snapshot R) (k : Call) (after : Snapshot R) → Pending a before → ByRecords a (λ s. Keeps s.document μ) before k after → ByRecords a (Stands a μ) before k after
 by_records a μ before (call.Script records given) after p done = record {
   steps = done.steps;
   as_many = done.as_many;
-  stepwise = done.stepwise;
-  each = All-from_recursion (Stands a μ) done.steps (steps_stand a μ given.now before records.now done.steps after done.stepwise p (recursion_from_All (λ s. Keeps s.document μ) done.steps done.each));
+  stepwise = steps_stand a μ given.now before records.now done.steps after done.stepwise p;
 }
 by_records a μ before k after p done = tt
 

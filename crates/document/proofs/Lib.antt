@@ -6,3 +6,4 @@ pub mod Obeying
 pub mod Law
 pub mod Replays
 pub mod Waiting
+pub mod Partners

@@ -1,12 +1,16 @@
 -- What is written to the front of a buffer of which a call may use so many cells.
-use Rattle.std.proofs.Common.{◌≡◌, ℕ, ◌-◌, ◌≤◌, cond, ◌&&◌, leb, List, ◌++◌, length, take, drop, is_ok, IfOk, Some, None, Ok, Err, Option, Result, sym, refl, ap, ◌∙◌, append_assoc}
+use Rattle.std.proofs.Common.{◌≡◌, ℕ, ◌-◌, ◌≤◌, cond, ◌&&◌, leb, List, ◌++◌, length, take, drop, is_ok, IfOk, Some, None, Ok, Err, Option, Result, sym, refl, ap, ◌∙◌, append_assoc, arith}
 use Rattle.std.proofs.lemmas.List.{take-append-drop}
 use Rattle.std.proofs.lemmas.Bool.{leb-true, and_parts}
 use Rattle.std.proofs.lemmas.Slice.{between_is}
+use Rattle.automaton.specs.Automaton.{Automaton}
+use Rattle.automaton.specs.Walk.{colours_from}
+use Rattle.automaton.proofs.Walk.{colours_length}
 use Rattle.model.specs.declared.refusal.Refusal.{Refusal}
 use Rattle.model.specs.declared.refusal.Refusal.TheVariants.{OutsideText, ShortBuffer}
 use Rattle.model.specs.Calls.{unless, answered, range_refusal, with_front}
 use Rattle.model.specs.Model.{Model, text_of}
+use Rattle.model.specs.SomeWalk.{BySomeWalk}
 use Rattle.model.proofs.Editing.{between_drop}
 use Rattle.editing.proofs.Planning.{passed}
 
@@ -31,6 +35,16 @@ pub kept_within : (o : Option Refusal) (r : Result (Unit {0}) Refusal) → r ≡
 kept_within None (Ok x) is K part buffer out cells fits told = λ kept. front_extends part buffer out cells (fits refl) (told kept)
 kept_within (Some f) (Ok x) is K part buffer out cells fits told = cc
 kept_within o (Err f) is K part buffer out cells fits told = tt
+
+-- The same with the colours of some walk.
+pub coloured_within : (o : Option Refusal) (r : Result (Unit {0}) Refusal) → r ≡ answered o tt → (a : Automaton) (bytes buffer out : List ℕ) (cells : ℕ) → (o ≡ None → length bytes ≤ cells) →
+    IfOk r (λ _. BySomeWalk a bytes (λ l. with_front l (take cells buffer)) out) → IfOk r (λ _. BySomeWalk a bytes (λ l. with_front l buffer) (out ++ drop cells buffer))
+coloured_within None (Ok x) is a bytes buffer out cells fits told = record {
+  state = told.state;
+  is = front_extends (colours_from a told.state bytes) buffer out cells (omega (arith, colours_length a told.state bytes, fits refl)) told.is;
+}
+coloured_within (Some f) (Ok x) is a bytes buffer out cells fits told = cc
+coloured_within o (Err f) is a bytes buffer out cells fits told = tt
 
 -- A range that is not refused fits its buffer.
 pub range_room : (m : Model) (from to cells : ℕ) → range_refusal m from to cells ≡ None → (to ≤ length (text_of m)) × (to - from ≤ cells)

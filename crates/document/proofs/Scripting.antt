@@ -1,33 +1,35 @@
 -- Records carried out one after another: what is known behind each of them.
-use Rattle.std.proofs.Common.{◌≡◌, ℕ, suc, ◌+◌, ◌<◌, ◌≤◌, List, [], ◌∷◌, ◌++◌, length, drop, get_or, Some, None, sym, refl, ap, ◌∙◌, subst, arith}
-use Rattle.std.specs.List.{AllByRecursion}
+use Rattle.std.proofs.Common.{◌≡◌, ℕ, suc, ◌+◌, ◌-◌, ◌<◌, ◌≤◌, true, List, [], ◌∷◌, ◌++◌, length, drop, get_or, Some, None, sym, refl, ap, ◌∙◌, subst, arith}
 use Rattle.std.proofs.lemmas.List.{length-append, drop_all, drop_more}
-use Rattle.std.proofs.lemmas.List.Elements.{All-from_recursion}
 use Rattle.automaton.specs.Automaton.{Automaton}
 use Rattle.measure.specs.Measure.{Measure}
+use Rattle.model.specs.declared.change.Change.{Change}
 use Rattle.model.specs.declared.refusal.Refusal.{Refusal}
 use Rattle.model.specs.declared.replacement.Replacement.{Replacement}
+use Rattle.model.specs.Calls.{edited, fits, due_fits}
 use Rattle.model.specs.End.{EndsFirst}
 use Rattle.model.specs.Model.{Model, text_of}
-use Rattle.model.specs.Script.{part_of, record_refusal, record_change, recorded, record_painted, Scripted, one_more, stopped_or, scripted, screen_or, script_screen}
+use Rattle.model.specs.SomeWalk.{ChangeColoured}
+use Rattle.model.specs.Script.{part_of, record_refusal, record_change, recorded, record_painted, RecordColoured, Scripted, one_more, stopped_or, scripted, screen_or, script_screen}
 use Rattle.model.proofs.Editing.{edit_leaves_text}
 use Rattle.model.proofs.Ending.{ends_first}
 use Rattle.document.specs.declared.document.Document.{Document}
 use Rattle.document.specs.Content.{model_of, text, Keeps, Unchanged}
 use Rattle.document.specs.Snapshot.{Snapshot, SameSnapshot}
-use Rattle.document.specs.Records.{Carried, Stepwise, RecordByRecord}
+use Rattle.editing.proofs.Showing.{fits_parts}
+use Rattle.document.specs.Records.{CarriedInText, CarriedTo, Stepwise, RecordByRecord}
 use Rattle.document.proofs.Records.{record_accepted}
 
--- Records carried out one after another, up to the last of them.
-abbrev pub Reached : {R : Type 0} → Automaton → List ℕ → Snapshot R → List Replacement → List (Snapshot R) → Snapshot R → Type 0
-Reached a given before rs [] here = here ≡ before
-Reached a given before [] (s ∷ steps) here = ⊥
-Reached a given before (r ∷ rs) (s ∷ steps) here = Carried a given r before s × Reached a given s rs steps here
+-- Records done one after another, up to the last of them.
+abbrev pub Reached : {R : Type 0} → (Replacement → Snapshot R → Snapshot R → Type 0) → Snapshot R → List Replacement → List (Snapshot R) → Snapshot R → Type 0
+Reached Done before rs [] here = here ≡ before
+Reached Done before [] (s ∷ steps) here = ⊥
+Reached Done before (r ∷ rs) (s ∷ steps) here = Done r before s × Reached Done s rs steps here
 
-left_there : {R : Type 0} (a : Automaton) (given : List ℕ) (before : Snapshot R) (rs : List Replacement) (steps : List (Snapshot R)) (here after : Snapshot R) → Reached a given before rs steps here → SameSnapshot here after → Stepwise a given before rs steps after
-left_there a given before rs [] here after so same = subst (λ (s : Snapshot _). SameSnapshot s after) so same
-left_there a given before [] (s ∷ steps) here after so same = absurd so
-left_there a given before (r ∷ rs) (s ∷ steps) here after so same = (so.0, left_there a given s rs steps here after so.1 same)
+left_there : {R : Type 0} (Done : Replacement → Snapshot R → Snapshot R → Type 0) (before : Snapshot R) (rs : List Replacement) (steps : List (Snapshot R)) (here after : Snapshot R) → Reached Done before rs steps here → SameSnapshot here after → Stepwise Done before rs steps after
+left_there Done before rs [] here after so same = subst (λ (s : Snapshot _). SameSnapshot s after) so same
+left_there Done before [] (s ∷ steps) here after so same = absurd so
+left_there Done before (r ∷ rs) (s ∷ steps) here after so same = (so.0, left_there Done s rs steps here after so.1 same)
 
 -- So many records more in front.
 abbrev pub ahead : ℕ → Scripted → Scripted
@@ -37,19 +39,24 @@ ahead n s = record { done = n + s.done; refused = s.refused; after = s.after }
 abbrev pub Onward : ℕ → List ℕ → List Replacement → ℕ → Model → Model → Type 0
 Onward cells given records i first now = scripted cells given first records ≡ ahead i (scripted cells given now (drop i records))
 
-module _ {R : Type 0} (a : Automaton) (μ : Measure R) (given : List ℕ) (records : List Replacement) where
-  -- The snapshots behind the records so far, whatever the buffer and the reading of RANGE are.
-  pub record Steps (buffer : List ℕ) (reading : R) (i : ℕ) (first : Document R) (screen_first : List ℕ) (now : Document R) (screen_now : List ℕ) : Type 0 where
-    pub each : List (Snapshot R)
-    pub as_many : length each ≡ i
-    pub stepwise : Reached a given (record { document = first; screen = screen_first; buffer = buffer; reading = reading }) records each (record { document = now; screen = screen_now; buffer = buffer; reading = reading })
-    pub kept : AllByRecursion (λ s. Keeps s.document μ) each
+-- A document and its screen, with some buffer and some reading of RANGE.
+abbrev pub lying : {R : Type 0} → List ℕ → R → Document R → List ℕ → Snapshot R
+lying buffer reading document screen = record { document = document; screen = screen; buffer = buffer; reading = reading }
 
-  -- The same on the screen; and the steps up to here.
-  pub record Stepped (i : ℕ) (first : Document R) (screen_first : List ℕ) (now : Document R) (screen_now : List ℕ) : Type 0 where
-    pub kept : Keeps now μ
-    pub screens : script_screen a (length screen_first) given (model_of first) screen_first records ≡ script_screen a (length screen_first) given (model_of now) screen_now (drop i records)
-    pub steps : (buffer : List ℕ) (reading : R) → Steps buffer reading i first screen_first now screen_now
+-- The snapshots behind the records so far, whatever the buffer and the reading of RANGE are.
+pub record Steps {R : Type 0} (Done : Replacement → Snapshot R → Snapshot R → Type 0) (records : List Replacement) (buffer : List ℕ) (reading : R) (i : ℕ) (first : Document R) (screen_first : List ℕ) (now : Document R) (screen_now : List ℕ) : Type 0 where
+  pub each : List (Snapshot R)
+  pub as_many : length each ≡ i
+  pub stepwise : Reached Done (lying buffer reading first screen_first) records each (lying buffer reading now screen_now)
+
+abbrev pub AllSteps : {R : Type 0} → (Replacement → Snapshot R → Snapshot R → Type 0) → List Replacement → ℕ → Document R → List ℕ → Document R → List ℕ → Type 0
+AllSteps Done records i first screen_first now screen_now = (buffer : List ℕ) (reading : _) → Steps Done records buffer reading i first screen_first now screen_now
+
+-- Where readings are kept: the same on the screen, and the steps up to here.
+pub record Stepped {R : Type 0} (a : Automaton) (μ : Measure R) (given : List ℕ) (records : List Replacement) (i : ℕ) (first : Document R) (screen_first : List ℕ) (now : Document R) (screen_now : List ℕ) : Type 0 where
+  pub kept : Keeps now μ
+  pub screens : script_screen a (length screen_first) given (model_of first) screen_first records ≡ script_screen a (length screen_first) given (model_of now) screen_now (drop i records)
+  pub steps : AllSteps (CarriedTo a given (λ s. Keeps s.document μ)) records i first screen_first now screen_now
 
 ahead_more : (i : ℕ) (s : Scripted) → ahead i (one_more s) ≡ ahead (i + 1) s
 ahead_more i s = let e : i + suc s.done ≡ i + 1 + s.done = omega arith in λ z. record { done = e z; refused = s.refused; after = s.after }
@@ -90,18 +97,52 @@ pub screens_done : (a : Automaton) (cells : ℕ) (given : List ℕ) (records : L
 screens_done a cells given records i now screen none = ap (script_screen a cells given now screen) (drop_all i records none)
 
 -- The steps, with one more behind them.
-steps_more : {R : Type 0} (a : Automaton) (given : List ℕ) (before : Snapshot R) (rs : List Replacement) (steps : List (Snapshot R)) (here after : Snapshot R) (r : Replacement) (rest : List Replacement) →
-    Reached a given before rs steps here → drop (length steps) rs ≡ r ∷ rest → Carried a given r here after → Reached a given before rs (steps ++ (after ∷ [])) after
-steps_more a given before [] [] here after r rest so is c = let no : ◌≡◌ {A = ℕ} 0 (suc (length rest)) = ap length is in absurd (omega arith)
-steps_more a given before (q ∷ rs) [] here after r rest so is c =
+steps_more : {R : Type 0} (Done : Replacement → Snapshot R → Snapshot R → Type 0) (before : Snapshot R) (rs : List Replacement) (steps : List (Snapshot R)) (here after : Snapshot R) (r : Replacement) (rest : List Replacement) →
+    Reached Done before rs steps here → drop (length steps) rs ≡ r ∷ rest → Done r here after → Reached Done before rs (steps ++ (after ∷ [])) after
+steps_more Done before [] [] here after r rest so is c = let no : ◌≡◌ {A = ℕ} 0 (suc (length rest)) = ap length is in absurd (omega arith)
+steps_more Done before (q ∷ rs) [] here after r rest so is c =
     let same : q ≡ r = cc in
-    (subst (λ (p : Replacement). Carried a given p before after) (sym same) (subst (λ (s : Snapshot _). Carried a given r s after) so c), refl)
-steps_more a given before [] (s ∷ steps) here after r rest so is c = absurd so
-steps_more a given before (q ∷ rs) (s ∷ steps) here after r rest so is c = (so.0, steps_more a given s rs steps here after r rest so.1 is c)
+    (subst (λ (p : Replacement). Done p before after) (sym same) (subst (λ (s : Snapshot _). Done r s after) so c), refl)
+steps_more Done before [] (s ∷ steps) here after r rest so is c = absurd so
+steps_more Done before (q ∷ rs) (s ∷ steps) here after r rest so is c = (so.0, steps_more Done s rs steps here after r rest so.1 is c)
 
-all_more : {X : Type 0} (P : X → Type 0) (xs : List X) (x : X) → AllByRecursion P xs → P x → AllByRecursion P (xs ++ (x ∷ []))
-all_more P [] x all p = (p, tt)
-all_more P (y ∷ xs) x all p = (all.0, all_more P xs x all.1 p)
+module _ {R : Type 0} (Done : Replacement → Snapshot R → Snapshot R → Type 0) (records : List Replacement) where
+  pub one_step : (i : ℕ) (r : Replacement) (rest : List Replacement) → drop i records ≡ r ∷ rest → (first : Document R) (screen_first : List ℕ) (now : Document R) (screen : List ℕ) (after : Document R) (screen_after : List ℕ) →
+      ((buffer : List ℕ) (reading : R) → Done r (lying buffer reading now screen) (lying buffer reading after screen_after)) → AllSteps Done records i first screen_first now screen → AllSteps Done records (i + 1) first screen_first after screen_after
+  one_step i r rest next first screen_first now screen after screen_after done steps buffer reading =
+      let s = steps buffer reading in
+      let here = lying buffer reading after screen_after in
+      record {
+        each = s.each ++ (here ∷ []);
+        as_many = length-append s.each (here ∷ []) ∙ ap (λ n. n + 1) s.as_many;
+        stepwise = steps_more Done _ records s.each _ here r rest s.stepwise (ap (λ n. drop n records) s.as_many ∙ next) (done buffer reading);
+      }
+
+  -- What all of them come to.
+  pub by_steps : (given : List ℕ) (i : ℕ) (first : Document R) (screen_first : List ℕ) (now after : Document R) (screen screen_after : List ℕ) (buffer : List ℕ) (reading : R) → AllSteps Done records i first screen_first now screen →
+      Unchanged now after → screen_after ≡ screen → (scripted (length screen_first) given (model_of first) records).done ≡ i → RecordByRecord Done given records (lying buffer reading first screen_first) (lying buffer reading after screen_after)
+  by_steps given i first screen_first now after screen screen_after buffer reading steps same shown done =
+      let s = steps buffer reading in
+      record {
+        steps = s.each;
+        as_many = s.as_many ∙ sym done;
+        stepwise = left_there Done _ records s.each _ (lying buffer reading after screen_after) s.stepwise (same, (shown, (refl, refl)));
+      }
+
+-- The due of a record's edit, painted: some change with the record's numbers is.
+pub record_coloured : (a : Automaton) (given : List ℕ) (m : Model) (r : Replacement) (c : Change) (before after : List ℕ) (now : Model) → now ≡ edited m r.from r.to (part_of given r) c → due_fits now.due (length (text_of now)) ≡ true →
+    c.place ≡ r.from → c.removed ≡ r.to - r.from → c.inserted ≡ length (part_of given r) → ChangeColoured a (text_of now) c before after → RecordColoured a given m r before after
+record_coloured a given m r c before after now is fitting place removed inserted painted =
+    let t = text_of (recorded given m r) in
+    let fit : fits c (length t) ≡ true = subst (λ (n : Model). due_fits n.due (length (text_of n)) ≡ true) is fitting in
+    let parts = fits_parts c (length t) fit in
+    let same : c ≡ record { place = r.from; removed = r.to - r.from; inserted = length (part_of given r); end = c.end } = λ z. record { place = place z; removed = removed z; inserted = inserted z; end = c.end } in
+    record {
+      end = c.end;
+      behind = omega (arith, parts.0, place, inserted);
+      within = parts.1;
+      painted = subst (λ (d : Change). ChangeColoured a t d before after) same (subst (λ (n : Model). ChangeColoured a (text_of n) c before after) is painted);
+    }
 
 -- A record that was carried out names its end.
 ends_so : {R : Type 0} (a : Automaton) (given : List ℕ) (r : Replacement) (cells : ℕ) (now after : Document R) → record_refusal cells given (model_of now) r ≡ None → model_of after ≡ recorded given (model_of now) r →
@@ -112,55 +153,22 @@ ends_so a given r cells now after none left =
     let is = edit_leaves_text m.chunks r.from r.to (part_of given r) ok.allowed.forward ok.allowed.inside in
     subst (λ t. EndsFirst a (text now) t (record_change a given m r)) (sym (ap (λ (n : Model). text_of n) left ∙ is)) (ends_first (text now) r.from r.to (part_of given r) ok.allowed.forward ok.allowed.inside a)
 
-module _ {R : Type 0} (a : Automaton) (μ : Measure R) (given : List ℕ) (records : List Replacement) where
-  pub stepped_first : (first : Document R) (screen : List ℕ) → Keeps first μ → Stepped a μ given records 0 first screen first screen
-  stepped_first first screen kept = record {
-    kept = kept;
-    screens = refl;
-    steps = λ buffer reading. record { each = []; as_many = refl; stepwise = refl; kept = tt };
-  }
+-- One record more.
+module _ {R : Type 0} (a : Automaton) (given : List ℕ) (records : List Replacement) (i : ℕ) (r d : Replacement) (some : i < length records) (is : r ≡ get_or records i d) (first : Document R) (screen_first : List ℕ) (now : Document R) (screen : List ℕ) (after : Document R) (screen_after : List ℕ)
+    (none : record_refusal (length screen) given (model_of now) r ≡ None) (left : model_of after ≡ recorded given (model_of now) r) (coloured : RecordColoured a given (model_of now) r screen screen_after) where
+  in_text : (buffer : List ℕ) (reading : R) → CarriedInText a given r (lying buffer reading now screen) (lying buffer reading after screen_after)
+  in_text buffer reading = record { accepted = none; model_is = left; screen_coloured = coloured; buffer_same = refl; reading_same = refl }
 
-  module _ (i : ℕ) (r d : Replacement) (some : i < length records) (is : r ≡ get_or records i d) (first : Document R) (screen_first : List ℕ) (now : Document R) (screen : List ℕ) (after : Document R) (screen_after : List ℕ)
-      (long : length screen ≡ length screen_first) (none : record_refusal (length screen) given (model_of now) r ≡ None) (left : model_of after ≡ recorded given (model_of now) r)
-      (shown : screen_after ≡ record_painted a given (model_of now) screen r) (kept : Keeps after μ) where
-    carried : (buffer : List ℕ) (reading : R) → Carried a given r (record { document = now; screen = screen; buffer = buffer; reading = reading }) (record { document = after; screen = screen_after; buffer = buffer; reading = reading })
-    carried buffer reading = record {
-      accepted = none;
-      model_is = left;
-      screen_is = shown;
-      buffer_same = refl;
-      reading_same = refl;
-      names_its_end = ends_so a given r (length screen) now after none left;
-    }
+  pub coloured_more : AllSteps (CarriedInText a given) records i first screen_first now screen → AllSteps (CarriedInText a given) records (i + 1) first screen_first after screen_after
+  coloured_more = one_step (CarriedInText a given) records i r (drop (i + 1) records) (next_record (length screen) given records i r d some is) first screen_first now screen after screen_after in_text
 
-    further : (buffer : List ℕ) (reading : R) → Steps a μ given records buffer reading i first screen_first now screen → Steps a μ given records buffer reading (i + 1) first screen_first after screen_after
-    further buffer reading s =
-        let here : Snapshot R = record { document = after; screen = screen_after; buffer = buffer; reading = reading } in
-        record {
-          each = s.each ++ (here ∷ []);
-          as_many = length-append s.each (here ∷ []) ∙ ap (λ n. n + 1) s.as_many;
-          stepwise = steps_more a given _ records s.each _ here r (drop (i + 1) records) s.stepwise (ap (λ n. drop n records) s.as_many ∙ next_record (length screen) given records i r d some is) (carried buffer reading);
-          kept = all_more (λ t. Keeps t.document μ) s.each here s.kept kept;
-        }
-
-    pub stepped_more : Stepped a μ given records i first screen_first now screen → Stepped a μ given records (i + 1) first screen_first after screen_after
-    stepped_more s =
-        let same : record_refusal (length screen_first) given (model_of now) r ≡ None = ap (λ n. record_refusal n given (model_of now) r) (sym long) ∙ none in
-        record {
-          kept = kept;
-          screens = s.screens ∙ screens_more (length screen_first) given records i r d some is a (model_of now) (model_of after) screen screen_after same left shown;
-          steps = λ buffer reading. further buffer reading (s.steps buffer reading);
-        }
-
-  -- What all of them come to.
-  pub by_steps : (i : ℕ) (first : Document R) (screen_first : List ℕ) (now after : Document R) (screen screen_after : List ℕ) (buffer : List ℕ) (reading : R) → Stepped a μ given records i first screen_first now screen →
-      Unchanged now after → screen_after ≡ screen → (scripted (length screen_first) given (model_of first) records).done ≡ i →
-      RecordByRecord a (λ s. Keeps s.document μ) given records (record { document = first; screen = screen_first; buffer = buffer; reading = reading }) (record { document = after; screen = screen_after; buffer = buffer; reading = reading })
-  by_steps i first screen_first now after screen screen_after buffer reading s same shown done =
-      let t = s.steps buffer reading in
+  pub stepped_more : (μ : Measure R) → length screen ≡ length screen_first → screen_after ≡ record_painted a given (model_of now) screen r → Keeps after μ →
+      Stepped a μ given records i first screen_first now screen → Stepped a μ given records (i + 1) first screen_first after screen_after
+  stepped_more μ long shown kept s =
+      let same : record_refusal (length screen_first) given (model_of now) r ≡ None = ap (λ n. record_refusal n given (model_of now) r) (sym long) ∙ none in
       record {
-        steps = t.each;
-        as_many = t.as_many ∙ sym done;
-        stepwise = left_there a given _ records t.each _ (record { document = after; screen = screen_after; buffer = buffer; reading = reading }) t.stepwise (same, (shown, (refl, refl)));
-        each = All-from_recursion (λ s. Keeps s.document μ) t.each t.kept;
+        kept = kept;
+        screens = s.screens ∙ screens_more (length screen_first) given records i r d some is a (model_of now) (model_of after) screen screen_after same left shown;
+        steps = one_step (CarriedTo a given (λ t. Keeps t.document μ)) records i r (drop (i + 1) records) (next_record (length screen) given records i r d some is) first screen_first now screen after screen_after
+            (λ buffer reading. (record { in_text = in_text buffer reading; screen_is = shown; names_its_end = ends_so a given r (length screen) now after none left }, kept)) s.steps;
       }

@@ -7,12 +7,14 @@ use Rattle.chunks.specs.Tree.{Balanced, height}
 use Rattle.measure.specs.Measure.{Measure, reading}
 use Rattle.model.specs.declared.change.Change.{Change}
 use Rattle.model.specs.declared.refusal.Refusal.{Refusal}
+use Rattle.model.specs.declared.refusal.Refusal.TheVariants.{NoBracket}
 use Rattle.model.specs.declared.replacement.Replacement.{Replacement}
-use Rattle.model.specs.Calls.{open_refusal, opened, edit_refusal, edited, paint_refusal, settled, close_refusal, range_refusal, with_front, extent_refusal, place_refusal, spot_refusal, partner_refusal, but_bracket, begins}
+use Rattle.model.specs.Calls.{open_refusal, opened, edit_refusal, edited, paint_refusal, settled, close_refusal, range_refusal, with_front, extent_refusal, place_refusal, spot_refusal, partner_refusal, begins}
 use Rattle.model.specs.End.{edit_change, EndsFirst}
 use Rattle.model.specs.Laws.{ShowsText}
 use Rattle.model.specs.Model.{Model}
 use Rattle.model.specs.Paint.{painted}
+use Rattle.model.specs.SomeWalk.{FrontColoured, ChangeColoured}
 use Rattle.model.specs.Script.{Scripted, scripted, script_screen}
 use Rattle.brackets.specs.Partner.{partner}
 use Rattle.positions.specs.Position.{line_of, column_of, spot}
@@ -25,7 +27,7 @@ use Rattle.document.specs.declared.call.Answer.{Answer}
 use Rattle.document.specs.declared.call.Answer.TheVariants as answer
 use Rattle.document.specs.Content.{model_of, text, Keeps, size_of, Unchanged}
 use Rattle.document.specs.Snapshot.{Snapshot, SameSnapshot}
-use Rattle.document.specs.Records.{script_result, RecordByRecord}
+use Rattle.document.specs.Records.{script_result, CarriedInText, CarriedTo, RecordByRecord}
 
 -- A call with all it was given, its answer, and what it left.
 pub record Entry (R : Type 0) : Type 0 where
@@ -119,26 +121,54 @@ pub record Obeys {R : Type 0} (a : Automaton) (μ : Measure R) (before : Snapsho
 
 -- A script was carried out record by record, and so much is true behind each record.
 abbrev pub ByRecords : {R : Type 0} → Automaton → (Snapshot R → Type 0) → Snapshot R → Call → Snapshot R → Type 0
-ByRecords a True before (call.Script records given) after = RecordByRecord a True given.now records.now before after
+ByRecords a True before (call.Script records given) after = RecordByRecord (CarriedTo a given.now True) given.now records.now before after
 ByRecords a True before k after = Unit {0}
 
--- The refusal that an answer tells, if it tells one.
-abbrev pub refusal_told : Answer → Option Refusal
-refusal_told (answer.Refused refusal) = Some refusal
-refusal_told k = None
+-- An answer without what readings tell: where a due ends, what PLACE, SPOT and PARTNER find, and that no live bracket is there.
+abbrev pub but_readings : Answer → Answer
+but_readings (answer.Due c) = answer.Due (record { place = c.place; removed = c.removed; inserted = c.inserted; end = 0 })
+but_readings (answer.Position line column) = answer.Position 0 0
+but_readings (answer.Spot at) = answer.Spot 0
+but_readings (answer.Partner found) = answer.Partner None
+but_readings (answer.Refused (NoBracket at)) = answer.Partner None
+but_readings k = k
 
--- A script answers what its records come to.
-abbrev pub ScriptAnswers : {R : Type 0} → Snapshot R → Call → Answer → Type 0
-ScriptAnswers before (call.Script records given) told = told ≡ script_answer (script_result (script_of before records.now given.now))
-ScriptAnswers before k told = Unit {0}
+-- What SPOT finds lies in the text, and a live bracket that PARTNER misses is missed at the place asked for.
+abbrev pub FoundInText : List ℕ → Call → Answer → Type 0
+FoundInText t (call.Spot line column) (answer.Spot at) = at ≤ length t
+FoundInText t (call.Partner place) (answer.Refused (NoBracket at)) = at ≡ place
+FoundInText t k told = Unit {0}
 
--- What is true of a call whatever grammar and meter it is given, and whichever were given before: it is refused as the rules say,
--- but for the refusal that no live bracket is there, and leaves the text, in the chunks, that they say; where it is refused it leaves everything.
+-- What is left where a call is not refused, whatever the readings are.
+module _ {R : Type 0} (a : Automaton) (s : Snapshot R) where
+  -- EDIT leaves the due that it answers.
+  abbrev pub model_told : Call → Answer → Model
+  model_told (call.Edit from to bytes) (answer.Due c) = edited (model_of s.document) from to bytes.now c
+  model_told k told = model_done a s k
+
+  -- Cells that are coloured have the colours of some walk over their bytes.
+  abbrev pub ScreenInText : Call → Snapshot R → Type 0
+  ScreenInText (call.Paint change) after = ChangeColoured a (text s.document) change s.screen after.screen
+  ScreenInText (call.Script records given) after = RecordByRecord (CarriedInText a given.now) given.now records.now s after
+  ScreenInText k after = after.screen ≡ s.screen
+
+  abbrev pub BufferInText : Call → Snapshot R → Type 0
+  BufferInText (call.Colours from to room) after = FrontColoured a (text s.document) from to s.buffer after.buffer
+  BufferInText k after = after.buffer ≡ buffer_done a s k
+
+  abbrev pub ReadingInText : Call → Snapshot R → Type 0
+  ReadingInText (call.Range from to) after = Unit {0}
+  ReadingInText k after = after.reading ≡ s.reading
+
+-- What is true of a call whatever grammar and meter it is given, and whichever were given before: it answers and leaves what the
+-- rules say, but for what readings tell, and where it is refused it leaves everything.
 pub record ObeysInText {R : Type 0} (a : Automaton) (before : Snapshot R) (e : Entry R) : Type 0 where
-  pub refusal_is : but_bracket (refusal_told e.answer) ≡ but_bracket (refusal_of a before e.call)
-  pub script_is : ScriptAnswers before e.call e.answer
-  pub chunks_are : (model_of e.after.document).chunks ≡ left_by (refusal_of a before e.call) (model_of before.document).chunks (model_done a before e.call).chunks
-  pub usable_is : (model_of e.after.document).usable ≡ left_by (refusal_of a before e.call) (model_of before.document).usable (model_done a before e.call).usable
+  pub answer_is : but_readings e.answer ≡ but_readings (replied (refusal_of a before e.call) (answer_done a before e.call))
+  pub found_so : FoundInText (text before.document) e.call e.answer
+  pub model_is : model_of e.after.document ≡ left_by (refusal_of a before e.call) (model_of before.document) (model_told a before e.call e.answer)
+  pub screen_is : refusal_of a before e.call ≡ None → ScreenInText a before e.call e.after
+  pub buffer_is : refusal_of a before e.call ≡ None → BufferInText a before e.call e.after
+  pub reading_is : refusal_of a before e.call ≡ None → ReadingInText a before e.call e.after
   pub refused_leaves : (refusal : Refusal) → refusal_of a before e.call ≡ Some refusal → SameSnapshot before e.after
 
 -- A due that was answered names as its end the first place behind the new bytes where the old and the new walk share a state,

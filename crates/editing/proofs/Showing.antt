@@ -12,7 +12,7 @@ use Rattle.automaton.proofs.Walk.{colours_length}
 use Rattle.model.specs.declared.change.Change.{Change}
 use Rattle.model.specs.Calls.{unless, range_refusal, with_front, fits}
 use Rattle.model.specs.Model.{Model, text_of}
-use Rattle.model.specs.Paint.{painted, length_before}
+use Rattle.model.specs.Paint.{length_before, repainted}
 use Rattle.model.specs.declared.refusal.Refusal.TheVariants.{OutsideText, ShortBuffer}
 use Rattle.model.proofs.Painting.{take_colours, drop_colours}
 use Rattle.editing.proofs.Planning.{passed}
@@ -34,32 +34,33 @@ range_passed m from to cells e =
     (leb-true from to range.0, leb-true to (length (text_of m)) range.1)
 
 -- Cells coloured at the front of a buffer to which their bytes were copied.
-pub coloured_front : (a : Automaton) (text out one cells : List ℕ) (from to s : ℕ) → from ≤ to → to ≤ length text → s ≡ state_before a text from → one ≡ with_front (between from to text) out →
-    cells ≡ colours_from a s (take (to - from - 0) one) → cells ++ post_of 0 (to - from - 0) one ≡ with_front (between from to (colours a text)) out
-coloured_front a text out one cells from to s forward inside state is made =
+pub coloured_front : (a : Automaton) (text out one cells : List ℕ) (from to s : ℕ) → from ≤ to → to ≤ length text → one ≡ with_front (between from to text) out →
+    cells ≡ colours_from a s (take (to - from - 0) one) → cells ++ post_of 0 (to - from - 0) one ≡ with_front (colours_from a s (between from to text)) out
+coloured_front a text out one cells from to s forward inside is made =
     let bytes = between from to text in
     let n = to - from in
     let same : n - 0 ≡ n = omega arith in
     let long : length bytes ≡ n = length-between text from to inside in
-    let longer : length (between from to (colours a text)) ≡ n = length-between (colours a text) from to (omega (arith, colours_length a 0 text)) in
     let part : take (n - 0) one ≡ bytes = ap (λ k. take k one) same ∙ ap (take n) is ∙ take_at bytes (drop (length bytes) out) n long in
     let rest : drop (n - 0) one ≡ drop n out = ap (λ k. drop k one) same ∙ ap (drop n) is ∙ drop_at bytes (drop (length bytes) out) n long ∙ ap (λ k. drop k out) long in
-    let shown : cells ≡ between from to (colours a text) = made ∙ ap (colours_from a s) part ∙ ap (λ x. colours_from a x bytes) state ∙ colours_between a text from to in
-    ap (λ l. l ++ drop (n - 0) one) shown ∙ ap (λ l. between from to (colours a text) ++ l) (rest ∙ ap (λ k. drop k out) (sym longer))
+    let shown : cells ≡ colours_from a s bytes = made ∙ ap (colours_from a s) part in
+    ap (λ l. l ++ drop (n - 0) one) shown ∙ ap (λ l. colours_from a s bytes ++ l) (rest ∙ ap (λ k. drop k out) (sym (colours_length a s bytes ∙ long)))
+
+-- With the text's colours, where the state is that of the text's walk.
+pub front_is : (a : Automaton) (text out : List ℕ) (from to s : ℕ) → s ≡ state_before a text from → with_front (colours_from a s (between from to text)) out ≡ with_front (between from to (colours a text)) out
+front_is a text out from to s state = ap (λ l. with_front l out) (ap (λ x. colours_from a x (between from to text)) state ∙ colours_between a text from to)
 
 -- A buffer that has just the room is filled.
 pub front_fills : (part out : List ℕ) → length part ≡ length out → with_front part out ≡ part
 front_fills part out long = ap (λ l. part ++ l) (drop_all (length part) out (omega arith)) ∙ append-nil part
 
 -- The tail of a screen moved, and then cells written before it.
-pub painted_is : (a : Automaton) (text screen moved cells : List ℕ) (c : Change) →
-    c.place ≤ c.end → c.end ≤ length text → length text ≤ length screen → length_before c (length text) ≤ length screen → c.inserted ≤ c.end →
-    moved ≡ paste screen c.end (drop (length_before c c.end) screen) (length_before c (length text) - length_before c c.end) →
-    cells ≡ between c.place c.end (colours a text) →
-    put_mid c.place (c.end - c.place) moved cells ≡ painted a text c screen
-painted_is a text screen moved cells c low high wide old-wide few is shown =
+pub repainted_is : (n : ℕ) (screen moved cells : List ℕ) (c : Change) →
+    c.place ≤ c.end → c.end ≤ n → n ≤ length screen → length_before c n ≤ length screen → c.inserted ≤ c.end →
+    moved ≡ paste screen c.end (drop (length_before c c.end) screen) (length_before c n - length_before c c.end) →
+    put_mid c.place (c.end - c.place) moved cells ≡ repainted cells c n screen
+repainted_is n screen moved cells c low high wide old-wide few is =
     let e = c.end in
-    let n = length text in
     let gap = length_before c n - length_before c e in
     let tail = take gap (drop (length_before c e) screen) in
     let sum : e + gap ≡ n = omega arith in
@@ -69,7 +70,15 @@ painted_is a text screen moved cells c low high wide old-wide few is shown =
     let back : post_of c.place (e - c.place) moved ≡ tail ++ drop n screen = Post-is c.place e moved low ∙ ap (drop e) shape ∙ drop_at (take e screen) (tail ++ drop n screen) e long in
     ap (λ l. l ++ (cells ++ post_of c.place (e - c.place) moved)) front
     ∙ ap (λ l. take c.place screen ++ (cells ++ l)) back
-    ∙ ap (λ l. take c.place screen ++ (l ++ (tail ++ drop n screen))) shown
+
+-- The cells between were written as a buffer that they fill.
+pub repainted_with : (n : ℕ) (screen moved out cells : List ℕ) (c : Change) →
+    c.place + c.inserted ≤ c.end → c.end ≤ n → n ≤ length screen → length_before c n ≤ length screen →
+    moved ≡ paste screen c.end (drop (length_before c c.end) screen) (length_before c n - length_before c c.end) → length moved ≡ length screen →
+    out ≡ with_front cells (between c.place c.end moved) → length cells ≡ c.end - c.place → put_mid c.place (c.end - c.place) moved out ≡ repainted cells c n screen
+repainted_with n screen moved out cells c low high wide old-wide is same written long =
+    let room = length-between moved c.place c.end (omega arith) in
+    repainted_is n screen moved out c (omega arith) high wide old-wide (omega arith) is ∙ ap (λ l. repainted l c n screen) (written ∙ front_fills cells _ (long ∙ sym room))
 
 -- The tests of a paint.
 pub fits_parts : (c : Change) (n : ℕ) → fits c n ≡ true → (c.place + c.inserted ≤ c.end) × (c.end ≤ n)

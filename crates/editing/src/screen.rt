@@ -4,6 +4,7 @@ ghost use Rattle.std.specs.List.{between};
 ghost use Rattle.automaton.specs.Walk.{colours};
 ghost use Rattle.model.specs.Calls.{answered, range_refusal as range_refused, fitting_refusal, fits as fits_in, with_front};
 ghost use Rattle.model.specs.Paint.{painted};
+ghost use Rattle.model.specs.SomeWalk.{FrontColoured, ChangeColoured};
 ghost use Rattle.tree.specs.Public.{KeptBy};
 ghost use Rattle.editing.specs.Content.{text_in, model_in, scale_of};
 
@@ -40,6 +41,7 @@ pub fn copy_colours<X: Copy, G: Grammar, H: Meter<Reading = X>>(
     out: &mut [u8],
 ) -> Result<(), Refusal>
     ensures answer { result ≡ answered (range_refused (model_in tree.now None) from to (length out.old)) tt }
+    ensures anyway { OnOk result (FrontColoured (G.meaning meter.now.first.grammar) (text_in tree.now) from to out.old out.new) }
     ensures written { OnOk result (KeptBy tree.now (scale_of G.meaning H.scale meter.now) → out.new ≡ with_front (between from to (colours (G.meaning meter.now.first.grammar) (text_in tree.now))) out.old) }
     ensures same { OnErr result (out.new ≡ out.old) }
 {
@@ -68,6 +70,7 @@ pub fn paint_change<X: Copy, G: Grammar, H: Meter<Reading = X>>(
     screen: &mut [u8],
 ) -> Result<(), Refusal>
     ensures answer { result ≡ answered (fitting_refusal (model_in tree.now None) change (length screen.old)) tt }
+    ensures anyway { OnOk result (ChangeColoured (G.meaning meter.now.first.grammar) (text_in tree.now) change screen.old screen.new) }
     ensures painted { OnOk result (KeptBy tree.now (scale_of G.meaning H.scale meter.now) → screen.new ≡ painted (G.meaning meter.now.first.grammar) (text_in tree.now) change screen.old) }
     ensures same { OnErr result (screen.new ≡ screen.old) }
 {

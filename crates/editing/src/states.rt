@@ -1,5 +1,5 @@
 // The states of the text's walk, sought in the tree: before a place, and where two walks meet.
-// Here and in screen.rt the tree and its meter stay two parameters: in a struct each clause would read `self.now.tree.now` for `tree.now`.
+// Here, in screen.rt and in apply.rt the tree and its meter stay two parameters: in a struct each clause would read `self.now.tree.now` for `tree.now`.
 // `KeptBy tree μ` is a premise and no ghost field: a call may be given another meter than the tree was kept by, and what holds then is promised without it.
 ghost use Rattle.std.specs.Prelude.{◌≡◌, ◌≤◌, length, drop};
 ghost use Rattle.automaton.specs.Walk.{state_before};

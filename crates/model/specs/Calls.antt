@@ -134,8 +134,3 @@ abbrev pub partner_refusal : Automaton → Model → ℕ → Option Refusal
 partner_refusal a m at =
     unless (nat_lt at (length (text_of m))) (OutsidePlace at)
     (unless (is_live (role_at a (text_of m) at)) (NoBracket at) None)
-
--- Whether a live bracket is there is told by readings. All other refusals are right whatever the readings are.
-abbrev pub but_bracket : Option Refusal → Option Refusal
-but_bracket (Some (NoBracket at)) = None
-but_bracket refused = refused

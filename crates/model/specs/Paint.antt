@@ -10,9 +10,13 @@ use Rattle.model.specs.declared.change.Change.{Change}
 abbrev pub length_before : Change → ℕ → ℕ
 length_before c n = n + c.removed - c.inserted
 
-abbrev pub painted : Automaton → List ℕ → Change → List ℕ → List ℕ
-painted a text c screen =
+-- A screen behind a change of a text, now n bytes long, with the given cells for those from the change's place up to its end.
+abbrev pub repainted : List ℕ → Change → ℕ → List ℕ → List ℕ
+repainted cells c n screen =
     take c.place screen
-    ++ (between c.place c.end (colours a text)
-    ++ (between (length_before c c.end) (length_before c (length text)) screen
-    ++ drop (length text) screen))
+    ++ (cells
+    ++ (between (length_before c c.end) (length_before c n) screen
+    ++ drop n screen))
+
+abbrev pub painted : Automaton → List ℕ → Change → List ℕ → List ℕ
+painted a text c screen = repainted (between c.place c.end (colours a text)) c (length text) screen

@@ -1,6 +1,6 @@
 -- SCRIPT: records one after another, each an EDIT and the PAINT of its due. The first record that is refused ends it; what was done
 -- before stays done.
-use Rattle.std.specs.Prelude.{◌≡◌, ℕ, suc, ◌&&◌, List, [], ◌∷◌, length, Some, None, Option, nat_le}
+use Rattle.std.specs.Prelude.{◌≡◌, ℕ, suc, ◌+◌, ◌-◌, ◌≤◌, ◌&&◌, List, [], ◌∷◌, length, Some, None, Option, nat_le}
 use Rattle.std.specs.List.{between}
 use Rattle.automaton.specs.Automaton.{Automaton}
 use Rattle.model.specs.declared.change.Change.{Change}
@@ -12,6 +12,7 @@ use Rattle.model.specs.Edit.{edited_text, edited_chunks}
 use Rattle.model.specs.End.{edit_change}
 use Rattle.model.specs.Model.{Model, text_of}
 use Rattle.model.specs.Paint.{painted}
+use Rattle.model.specs.SomeWalk.{ChangeColoured}
 
 -- The new bytes of a record: a part of the text given with the script.
 abbrev pub part_of : List ℕ → Replacement → List ℕ
@@ -48,6 +49,13 @@ recorded given m r = record {
 -- On the screen, its change is painted.
 abbrev pub record_painted : Automaton → List ℕ → Model → List ℕ → Replacement → List ℕ
 record_painted a given m screen r = painted a (text_of (recorded given m r)) (record_change a given m r) screen
+
+-- The same where readings may tell any end: some change with the record's other numbers is painted.
+pub record RecordColoured (a : Automaton) (given : List ℕ) (m : Model) (r : Replacement) (before after : List ℕ) : Type 0 where
+  pub end : ℕ
+  pub behind : r.from + length (part_of given r) ≤ end
+  pub within : end ≤ length (text_of (recorded given m r))
+  pub painted : ChangeColoured a (text_of (recorded given m r)) (record { place = r.from; removed = r.to - r.from; inserted = length (part_of given r); end = end }) before after
 
 -- How many records were done, the refusal of the one that was not, and what they left.
 pub record Scripted : Type 0 where

@@ -7,10 +7,11 @@ ghost use Rattle.measure.specs.Measure.{Measure};
 ghost use Rattle.model.specs.Calls.{answered, refusal_in, open_refusal, opened, edit_refusal, edited, paint_refusal, settled, close_refusal, range_refusal, with_front};
 ghost use Rattle.model.specs.End.{edit_change};
 ghost use Rattle.model.specs.Paint.{painted};
+ghost use Rattle.model.specs.SomeWalk.{FrontColoured, ChangeColoured};
 ghost use Rattle.tree.specs.Public.{tree_in};
 ghost use Rattle.editing.specs.Content.{scale_of};
 ghost use Rattle.document.specs.Content.{model_of, new_model, text as text_of, Keeps, size_of, Unchanged};
-ghost use Rattle.document.specs.Records.{script_result, RecordByRecord};
+ghost use Rattle.document.specs.Records.{script_result, CarriedInText, CarriedTo, RecordByRecord};
 ghost use Rattle.document.specs.Tokens.{given_back, script_told};
 ghost use Rattle.model.specs.Script.{scripted, script_screen};
 
@@ -142,6 +143,7 @@ impl<X: Copy> Document<'_, Readings<X>> {
         ensures decides { given_back result ≡ paint_refusal (model_of self.old) due.change (length screen.old) }
         ensures after { model_of self.new ≡ (if is_ok result then settled (model_of self.old) else model_of self.old) }
         ensures tree { self.new.tree ≡ self.old.tree }
+        ensures anyway { OnOk result (ChangeColoured (G.meaning meter.now.first.grammar) (text_of self.old) due.change screen.old screen.new) }
         ensures painted { OnOk result (Keeps self.old (scale_of G.meaning H.scale meter.now) → screen.new ≡ painted (G.meaning meter.now.first.grammar) (text_of self.old) due.change screen.old) }
         ensures same { IfErr result (λ f. (f.back ≡ due) × (Unchanged self.old self.new × (screen.new ≡ screen.old))) }
     {
@@ -162,7 +164,8 @@ impl<X: Copy> Document<'_, Readings<X>> {
         ensures after { model_of self.new ≡ (scripted (length screen.old) text.now (model_of self.old) records.now).after }
         ensures painted { Keeps self.old (scale_of G.meaning H.scale meter.now) → screen.new ≡ script_screen (G.meaning meter.now.first.grammar) (length screen.old) text.now (model_of self.old) screen.old records.now }
         ensures keeps { let μ = scale_of G.meaning H.scale meter.now in Keeps self.old μ → Keeps self.new μ }
-        ensures records { let μ = scale_of G.meaning H.scale meter.now in (buffer : List ℕ) (reading : _) → Keeps self.old μ → RecordByRecord (G.meaning meter.now.first.grammar) (λ s. Keeps s.document μ) text.now records.now (record { document = self.old; screen = screen.old; buffer = buffer; reading = reading }) (record { document = self.new; screen = screen.new; buffer = buffer; reading = reading }) }
+        ensures anyway { (buffer : List ℕ) (reading : _) → RecordByRecord (CarriedInText (G.meaning meter.now.first.grammar) text.now) text.now records.now (record { document = self.old; screen = screen.old; buffer = buffer; reading = reading }) (record { document = self.new; screen = screen.new; buffer = buffer; reading = reading }) }
+        ensures records { let μ = scale_of G.meaning H.scale meter.now in (buffer : List ℕ) (reading : _) → Keeps self.old μ → RecordByRecord (CarriedTo (G.meaning meter.now.first.grammar) text.now (λ s. Keeps s.document μ)) text.now records.now (record { document = self.old; screen = screen.old; buffer = buffer; reading = reading }) (record { document = self.new; screen = screen.new; buffer = buffer; reading = reading }) }
     {
         let scripted = self.try_script(meter, screen, records, text);
         settle(scripted, pass, |done, pass| (done, pass))
@@ -177,6 +180,7 @@ impl<X: Copy> Document<'_, Readings<X>> {
         out: &mut [u8],
     ) -> Result<(), Refusal>
         ensures answer { result ≡ answered (range_refusal (model_of self.now) from to (length out.old)) tt }
+        ensures anyway { OnOk result (FrontColoured (G.meaning meter.now.first.grammar) (text_of self.now) from to out.old out.new) }
         ensures written { OnOk result (Keeps self.now (scale_of G.meaning H.scale meter.now) → out.new ≡ with_front (between from to (colours_of (G.meaning meter.now.first.grammar) (text_of self.now))) out.old) }
         ensures same { OnErr result (out.new ≡ out.old) }
     {

@@ -3,6 +3,7 @@ ghost use Rattle.std.specs.Prelude.{◌≡◌, min, List, ◌∷◌, length, is_
 ghost use Rattle.std.specs.List.{between};
 ghost use Rattle.automaton.specs.Walk.{colours as colours_of};
 ghost use Rattle.model.specs.Calls.{answered, range_refusal, with_front};
+ghost use Rattle.model.specs.SomeWalk.{FrontColoured};
 ghost use Rattle.editing.specs.Content.{scale_of};
 ghost use Rattle.document.specs.Content.{model_of, text as text_of, Keeps};
 ghost use Rattle.document.specs.Snapshot.{Snapshot, seen, SameDesk};
@@ -48,6 +49,7 @@ impl<X: Copy> Document<'_, Readings<X>> {
         buffer: &mut [u8],
     ) -> Result<(), Refusal>
         ensures answer { result ≡ answered (range_refusal (model_of self.now) from to (min room (length buffer.old))) tt }
+        ensures anyway { OnOk result (FrontColoured (G.meaning meter.now.first.grammar) (text_of self.now) from to buffer.old buffer.new) }
         ensures written { OnOk result (Keeps self.now (scale_of G.meaning H.scale meter.now) → buffer.new ≡ with_front (between from to (colours_of (G.meaning meter.now.first.grammar) (text_of self.now))) buffer.old) }
         ensures same { OnErr result (buffer.new ≡ buffer.old) }
     {

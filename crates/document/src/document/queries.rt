@@ -1,11 +1,12 @@
 // The questions that need no pass: they change nothing but what they are lent to write to.
-ghost use Rattle.std.specs.Prelude.{◌≡◌, IfOk, OnErr, OnOk};
+ghost use Rattle.std.specs.Prelude.{◌≡◌, ◌≤◌, length, IfOk, OnErr, OnOk};
 ghost use Rattle.std.specs.List.{between};
 ghost use Rattle.measure.specs.Measure.{reading as reading_of};
-ghost use Rattle.model.specs.Calls.{answered, refusal_in, extent_refusal, place_refusal, spot_refusal, partner_refusal, but_bracket, begins as begins_at};
+ghost use Rattle.model.specs.Calls.{answered, refusal_in, extent_refusal, place_refusal, spot_refusal, partner_refusal, begins as begins_at};
 ghost use Rattle.brackets.specs.Partner.{partner as partner_in};
 ghost use Rattle.positions.specs.Position.{position, spot as spot_in};
 ghost use Rattle.editing.specs.Content.{scale_of};
+ghost use Rattle.lookup.specs.Partner.{RefusedAnyway};
 ghost use Rattle.document.specs.Content.{model_of, text as text_of, Keeps};
 
 use crate::document::Document;
@@ -50,6 +51,7 @@ impl<X: Copy> Document<'_, Readings<X>> {
         column: u32,
     ) -> Result<u32, Refusal>
         ensures decides { refusal_in result ≡ spot_refusal (model_of self.now) line }
+        ensures within { IfOk result (λ p. p ≤ length (text_of self.now)) }
         ensures finds { IfOk result (λ p. Keeps self.now (scale_of G.meaning H.scale meter.now) → p ≡ spot_in (text_of self.now) line column) }
     {
         if line > self.lines {
@@ -65,7 +67,7 @@ impl<X: Copy> Document<'_, Readings<X>> {
         place: u32,
     ) -> Result<Option<Partner>, Refusal>
         ensures decides { Keeps self.now (scale_of G.meaning H.scale meter.now) → refusal_in result ≡ partner_refusal (G.meaning meter.now.first.grammar) (model_of self.now) place }
-        ensures anyway { but_bracket (refusal_in result) ≡ but_bracket (partner_refusal (G.meaning meter.now.first.grammar) (model_of self.now) place) }
+        ensures anyway { RefusedAnyway (text_of self.now) place result }
         ensures finds { IfOk result (λ p. Keeps self.now (scale_of G.meaning H.scale meter.now) → p ≡ partner_in (G.meaning meter.now.first.grammar) (text_of self.now) place) }
     {
         partner_of(&self.tree, meter, place)

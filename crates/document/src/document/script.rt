@@ -1,10 +1,10 @@
 // SCRIPT: records carried out one after another, each an edit whose due is painted at once.
 ghost use Rattle.std.specs.Prelude.{◌≡◌, ℕ, List, length, IfOk, OnErr};
 ghost use Rattle.model.specs.Calls.{refusal_in};
-ghost use Rattle.model.specs.Script.{record_refusal, recorded, record_painted, scripted, script_screen};
+ghost use Rattle.model.specs.Script.{record_refusal, recorded, record_painted, RecordColoured, scripted, script_screen};
 ghost use Rattle.editing.specs.Content.{scale_of};
 ghost use Rattle.document.specs.Content.{model_of, Keeps, Unchanged};
-ghost use Rattle.document.specs.Records.{script_result, RecordByRecord};
+ghost use Rattle.document.specs.Records.{script_result, CarriedInText, CarriedTo, RecordByRecord};
 
 use crate::document::Document;
 use editing::Readings;
@@ -52,6 +52,7 @@ impl<X: Copy> Document<'_, Readings<X>> {
     ) -> Result<(), Refusal>
         ensures decides { refusal_in result ≡ record_refusal (length screen.old) text.now (model_of self.old) replacement }
         ensures after { IfOk result (λ _. model_of self.new ≡ recorded text.now (model_of self.old) replacement) }
+        ensures anyway { IfOk result (λ _. RecordColoured (G.meaning meter.now.first.grammar) text.now (model_of self.old) replacement screen.old screen.new) }
         ensures painted { IfOk result (λ _. Keeps self.old (scale_of G.meaning H.scale meter.now) → screen.new ≡ record_painted (G.meaning meter.now.first.grammar) text.now (model_of self.old) screen.old replacement) }
         ensures keeps { let μ = scale_of G.meaning H.scale meter.now in Keeps self.old μ → Keeps self.new μ }
         ensures same { OnErr result (Unchanged self.old self.new × (screen.new ≡ screen.old)) }
@@ -74,7 +75,8 @@ impl<X: Copy> Document<'_, Readings<X>> {
         ensures after { model_of self.new ≡ (scripted (length screen.old) text.now (model_of self.old) records.now).after }
         ensures painted { Keeps self.old (scale_of G.meaning H.scale meter.now) → screen.new ≡ script_screen (G.meaning meter.now.first.grammar) (length screen.old) text.now (model_of self.old) screen.old records.now }
         ensures keeps { let μ = scale_of G.meaning H.scale meter.now in Keeps self.old μ → Keeps self.new μ }
-        ensures records { let μ = scale_of G.meaning H.scale meter.now in (buffer : List ℕ) (reading : _) → Keeps self.old μ → RecordByRecord (G.meaning meter.now.first.grammar) (λ s. Keeps s.document μ) text.now records.now (record { document = self.old; screen = screen.old; buffer = buffer; reading = reading }) (record { document = self.new; screen = screen.new; buffer = buffer; reading = reading }) }
+        ensures anyway { (buffer : List ℕ) (reading : _) → RecordByRecord (CarriedInText (G.meaning meter.now.first.grammar) text.now) text.now records.now (record { document = self.old; screen = screen.old; buffer = buffer; reading = reading }) (record { document = self.new; screen = screen.new; buffer = buffer; reading = reading }) }
+        ensures records { let μ = scale_of G.meaning H.scale meter.now in (buffer : List ℕ) (reading : _) → Keeps self.old μ → RecordByRecord (CarriedTo (G.meaning meter.now.first.grammar) text.now (λ s. Keeps s.document μ)) text.now records.now (record { document = self.old; screen = screen.old; buffer = buffer; reading = reading }) (record { document = self.new; screen = screen.new; buffer = buffer; reading = reading }) }
     {
         for (index, record) in records.iter().enumerate() {
             self.take_record(meter, screen, text, *record)

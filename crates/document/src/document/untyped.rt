@@ -4,6 +4,7 @@ ghost use Rattle.measure.specs.Measure.{Measure};
 ghost use Rattle.model.specs.Calls.{answered, refusal_in, open_refusal, opened, edit_refusal, edited, paint_refusal, settled, close_refusal};
 ghost use Rattle.model.specs.End.{edit_change};
 ghost use Rattle.model.specs.Paint.{painted};
+ghost use Rattle.model.specs.SomeWalk.{ChangeColoured};
 ghost use Rattle.editing.specs.Content.{scale_of};
 ghost use Rattle.document.specs.Content.{model_of, text as text_of, Keeps, Unchanged};
 
@@ -92,6 +93,7 @@ impl<X: Copy> Document<'_, Readings<X>> {
         ensures answer { result ≡ answered (paint_refusal (model_of self.old) change (length screen.old)) tt }
         ensures after { model_of self.new ≡ (if is_ok result then settled (model_of self.old) else model_of self.old) }
         ensures tree { self.new.tree ≡ self.old.tree }
+        ensures anyway { OnOk result (ChangeColoured (G.meaning meter.now.first.grammar) (text_of self.old) change screen.old screen.new) }
         ensures painted { OnOk result (Keeps self.old (scale_of G.meaning H.scale meter.now) → screen.new ≡ painted (G.meaning meter.now.first.grammar) (text_of self.old) change screen.old) }
         ensures same { OnErr result (Unchanged self.old self.new × (screen.new ≡ screen.old)) }
     {

@@ -3,6 +3,7 @@ use Rattle.automaton.specs.Automaton.{Automaton}
 use Rattle.document.specs.declared.call.Call.{Call}
 use Rattle.document.specs.Snapshot.{Snapshot}
 use Rattle.document.specs.Log.{ByRecords}
+use Rattle.document.proofs.Partners.{partner_obeys}
 use Rattle.document.proofs.document.log.Document+Readings+X.carry_out.Goals as goal
 
 pub returns-in-Open-clause-keeps : goal.returns-in-Open-clause-keeps
@@ -14,3 +15,6 @@ by_records a True before k l after is done = subst (λ (j : Call). ByRecords a T
 
 pub returns-in-Script-clause-records : goal.returns-in-Script-clause-records
 returns-in-Script-clause-records g c kept = by_records _ _ _ _ _ _ c.in-Script.is (c.try_script.ensures.records c.args.desk.now.buffer.now c.args.desk.now.reading.now kept)
+
+pub returns-in-Partner-clause-anyway : goal.returns-in-Partner-clause-anyway
+returns-in-Partner-clause-anyway g c = partner_obeys _ _ _ _ _ c.partner.result c.in-Partner.is c.partner.ensures.anyway c.told-in-Partner.ensures
