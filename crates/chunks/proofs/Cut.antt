@@ -79,7 +79,7 @@ module _ (f : ℕ → ℕ) where
       (each (take (f k) bytes) k (length-take-le (f k) bytes (omega arith)), pieces_each P (suc k) n (drop (f k) bytes) (simp length-drop (omega arith)) each)
 
 module _ (bytes : List ℕ) where
-  span_all : length bytes ≡ span (share (length bytes) (needed (length bytes))) 0 (needed (length bytes))
+  pub span_all : length bytes ≡ span (share (length bytes) (needed (length bytes))) 0 (needed (length bytes))
   span_all =
       let j = length bytes in
       let q = needed j in

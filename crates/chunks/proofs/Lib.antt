@@ -6,3 +6,4 @@ pub mod Spotting
 pub mod SizedSpotting
 pub mod Joined
 pub mod Overwriting
+pub mod Evenly

@@ -6,3 +6,4 @@ pub mod Cut
 pub mod Spot
 pub mod SizedSpot
 pub mod Over
+pub mod Laws
