@@ -5,3 +5,4 @@ pub mod Comment
 pub mod Quoted
 pub mod Region
 pub mod LawsHold
+pub mod SmallTexts

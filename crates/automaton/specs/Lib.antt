@@ -9,3 +9,4 @@ pub mod Comment
 pub mod Quoted
 pub mod Region
 pub mod Laws
+pub mod Examples

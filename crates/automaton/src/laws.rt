@@ -1,4 +1,5 @@
 // The laws of walks, colours and layers: each is what a function here ensures, so that its proof is asked for.
+ghost use Rattle.automaton.specs.Examples.{SmallTextsAreColoured};
 ghost use Rattle.automaton.specs.Laws.{WalkTakesEachStep, ColoursAloneShow, WalkCanBeCut, WalkStaysBelow, PilesAreLawful};
 
 pub fn walk_takes_each_step()
@@ -19,4 +20,9 @@ pub fn walk_stays_below()
 
 pub fn piles_are_lawful()
     ensures { PilesAreLawful }
+{}
+
+#[tactic(auto, using(crate::proofs::SmallTexts::small_texts_are_coloured))]
+pub fn small_texts_are_coloured()
+    ensures { SmallTextsAreColoured }
 {}
