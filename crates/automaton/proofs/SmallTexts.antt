@@ -6,7 +6,6 @@ use Rattle.automaton.specs.Examples.{SmallTextsAreColoured}
 pub small_texts_are_coloured : SmallTextsAreColoured
 small_texts_are_coloured = record {
   words_numbers_marks = refl;
-  no_state_behind_the_last = refl;
   comment_ends_with_its_line = refl;
   escaped_quote_ends_nothing = refl;
   string_ends_with_its_line = refl;

@@ -1,21 +1,19 @@
 -- What the definitions give on small texts, one field each, so that a reader can check them by hand.
 -- They stand on the contract of a function of src/laws.rt, so that they are proved.
-use Rattle.std.specs.Prelude.{◌≡◌, [], ◌∷◌, map, None, codes}
+use Rattle.std.specs.Prelude.{◌≡◌, [], ◌∷◌, map, codes}
 use Rattle.automaton.specs.Automaton.{Automaton}
 use Rattle.automaton.specs.Bracket.{role}
 use Rattle.automaton.specs.Comment.{comment}
-use Rattle.automaton.specs.Layer.{state_among}
 use Rattle.automaton.specs.Quoted.{quoted}
 use Rattle.automaton.specs.Region.{region}
 use Rattle.automaton.specs.Walk.{colours}
-use Rattle.automaton.specs.Words.{words, word_state}
+use Rattle.automaton.specs.Words.{words}
 use Rattle.automaton.specs.declared.role.BracketKind.TheVariants.{Round, Square, Curly}
 use Rattle.automaton.specs.declared.role.Role.TheVariants.{Plain, Opening, Closing}
 
 pub record SmallTextsAreColoured : Type 0 where
   -- a digit goes on with a word, a point with a number, and a letter or an underscore ends one
   pub words_numbers_marks : colours words (codes "a12 2.5m_(.") ≡ 1 ∷ 1 ∷ 1 ∷ 0 ∷ 2 ∷ 2 ∷ 2 ∷ 1 ∷ 1 ∷ 3 ∷ 3 ∷ []
-  pub no_state_behind_the_last : state_among words.count word_state 3 ≡ None
   -- a # b, line feed, 1
   pub comment_ends_with_its_line : colours (comment words) (0x61 ∷ 0x23 ∷ 0x62 ∷ 0x0A ∷ 0x31 ∷ []) ≡ 1 ∷ 4 ∷ 4 ∷ 0 ∷ 2 ∷ []
   -- quote, backslash, quote, a, quote
