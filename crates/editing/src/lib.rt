@@ -5,6 +5,7 @@
 
 pub mod apply;
 pub mod lines;
+mod moving;
 pub mod plan;
 pub mod range;
 pub mod screen;

@@ -8,6 +8,7 @@ ghost use Rattle.model.specs.SomeWalk.{FrontColoured, ChangeColoured};
 ghost use Rattle.tree.specs.Public.{KeptBy};
 ghost use Rattle.editing.specs.Content.{text_in, model_in, scale_of};
 
+use crate::moving::move_cells;
 use crate::states::state_before;
 use grammar::{Grammar, colour_cells};
 use meter::Meter;
@@ -84,7 +85,7 @@ pub fn paint_change<X: Copy, G: Grammar, H: Meter<Reading = X>>(
     }
     let end = change.end as usize;
     let old_end = end + change.removed as usize - change.inserted as usize;
-    screen.copy_within(old_end..old, end);
+    move_cells(screen, old_end, old, end);
     let place = change.place as usize;
     let _ = copy_colours(
         tree,
