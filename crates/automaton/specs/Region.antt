@@ -15,10 +15,17 @@ module _ (G H : Automaton) where
   abbrev pub region_state : ℕ → RegionState
   region_state s = cond (nat_lt s G.count) (Below s) (Inside ((s - G.count) / H.count) ((s - G.count) % H.count))
 
-  -- The border byte ends a region where H is open, and is H's like any other byte elsewhere.
+  abbrev pub region_number : RegionState → ℕ
+  region_number (Below s) = s
+  region_number (Inside t u) = G.count + H.count * t + u
+
+  -- The border byte ends a region where H is open, and is H's like any other byte elsewhere. H begins in its state 0.
+  abbrev pub region_behind : RegionState → ℕ → RegionState
+  region_behind (Below s) b = cond (begins region_border G s b) (Inside (G.step s b) 0) (Below (G.step s b))
+  region_behind (Inside t u) b = cond (begins region_border H u b) (Below t) (Inside t (H.step u b))
+
   abbrev pub region_step : RegionState → ℕ → ℕ
-  region_step (Below s) b = cond (begins region_border G s b) (G.count + H.count * G.step s b) (G.step s b)
-  region_step (Inside t u) b = cond (begins region_border H u b) t (G.count + H.count * t + H.step u b)
+  region_step p b = region_number (region_behind p b)
 
   abbrev pub region_class : RegionState → ℕ → ℕ
   region_class (Below s) b = cond (begins region_border G s b) class.border (G.class s b)

@@ -10,7 +10,7 @@ ghost use Rattle.editing.specs.Content.{text_in, model_in, scale_of};
 
 use crate::moving::move_cells;
 use crate::states::state_before;
-use grammar::{Grammar, colour_cells};
+use grammar::Grammar;
 use meter::Meter;
 use model::{Change, Refusal};
 use tree::{ChunkTree, CopyRefusal};
@@ -48,11 +48,10 @@ pub fn copy_colours<X: Copy, G: Grammar, H: Meter<Reading = X>>(
 {
     copy_text(tree, from, to, out)?;
     let state = state_before(tree, meter, from);
-    colour_cells(
-        &meter.first.grammar,
-        state,
-        &mut out[0..(to - from) as usize],
-    );
+    meter
+        .first
+        .grammar
+        .colour_cells(state, &mut out[0..(to - from) as usize]);
     Ok(())
 }
 

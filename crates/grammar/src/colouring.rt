@@ -3,7 +3,6 @@
 ghost use Rattle.std.specs.Prelude.{◌≡◌, ◌++◌, length, take, drop};
 ghost use Rattle.automaton.specs.Walk.{walk as walk_from, colours_from};
 
-use crate::cells::colour_cells;
 use crate::interface::Grammar;
 
 // The state behind `bytes`, read from `state` on.
@@ -24,5 +23,5 @@ pub fn colour<G: Grammar>(grammar: &G, state: u8, bytes: &[u8], out: &mut [u8]) 
     let room = bytes.len().min(out.len());
     let front = &mut out[..room];
     front.copy_from_slice(&bytes[..room]);
-    colour_cells(grammar, state, front)
+    grammar.colour_cells(state, front)
 }

@@ -2,6 +2,7 @@
 ghost use Rattle.std.specs.Prelude.{◌≡◌};
 ghost use Rattle.automaton.specs.Automaton.{Automaton, Lawful};
 ghost use Rattle.automaton.specs.Bracket.{role as role_in};
+ghost use Rattle.automaton.specs.Walk.{walk as walk_from, colours_from};
 
 use crate::step::{Step, role_of};
 use automaton::role::Role;
@@ -38,6 +39,20 @@ pub trait Grammar {
             class: self.class(state, byte),
             behind: self.step(state, byte),
         }
+    }
+
+    // Each cell holds a byte; read from `state` on, it gives way to its class. Gives the state behind the bytes.
+    fn colour_cells(&self, state: u8, cells: &mut [u8]) -> u8
+        ensures behind { result ≡ walk_from (meaning self.now) state cells.old }
+        ensures coloured { cells.new ≡ colours_from (meaning self.now) state cells.old }
+    {
+        let mut now_in = state;
+        for cell in cells.iter_mut() {
+            let read = self.read(now_in, *cell);
+            *cell = read.class;
+            now_in = read.behind;
+        }
+        now_in
     }
 
     // The role of `byte` read from `state`: a bracket that is a mark, or nothing.

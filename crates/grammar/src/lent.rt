@@ -29,6 +29,10 @@ impl<G: Grammar> Grammar for &G {
         (**self).read(state, byte)
     }
 
+    fn colour_cells(&self, state: u8, cells: &mut [u8]) -> u8 {
+        (**self).colour_cells(state, cells)
+    }
+
     fn role(&self, state: u8, byte: u8) -> Role {
         (**self).role(state, byte)
     }

@@ -2,15 +2,14 @@
 
 #![tactic(auto)]
 
-pub mod cells;
 pub mod class;
 pub mod colouring;
 pub mod interface;
 pub mod lent;
 pub mod scene_words;
 pub mod step;
+mod words_table;
 
-pub use cells::colour_cells;
 pub use colouring::{colour, walk};
 pub use interface::Grammar;
 pub use scene_words::Words;

@@ -1,7 +1,7 @@
 // Region: a layer in which what stands between two border bytes is read by a second grammar.
-ghost use Rattle.std.specs.Prelude.{◌≡◌};
+ghost use Rattle.std.specs.Prelude.{◌≡◌, ◌<◌};
 ghost use Rattle.automaton.specs.Layer.{state_among};
-ghost use Rattle.automaton.specs.Region.{region, region_count, region_state};
+ghost use Rattle.automaton.specs.Region.{region, region_count, region_state, region_number, region_class, region_behind};
 ghost use Rattle.automaton.proofs.Region.{region_lawful};
 
 use crate::layer::{begins, fitted};
@@ -29,6 +29,42 @@ impl<G: Grammar, H: Grammar> Region<G, H> {
             Some(RegionState::Below(state))
         } else {
             Some(RegionState::Inside((state - n) / m, (state - n) % m))
+        }
+    }
+
+    // The number of a state.
+    fn number_of(&self, state: RegionState) -> u8
+        requires { region_number (G.Grammar.meaning self.now.below) (H.Grammar.meaning self.now.inner) state < 64 }
+        ensures { result ≡ region_number (G.Grammar.meaning self.now.below) (H.Grammar.meaning self.now.inner) state }
+    {
+        match state {
+            RegionState::Below(s) => s,
+            RegionState::Inside(t, u) => self.below.count() + self.inner.count() * t + u,
+        }
+    }
+
+    // The class of a byte read from a state, and where the layer is behind it.
+    #[inline(always)]
+    fn read_at(&self, state: RegionState, byte: u8) -> (u8, RegionState)
+        ensures class { result.0 ≡ region_class (G.Grammar.meaning self.now.below) (H.Grammar.meaning self.now.inner) state byte }
+        ensures behind { result.1 ≡ region_behind (G.Grammar.meaning self.now.below) (H.Grammar.meaning self.now.inner) state byte }
+    {
+        match state {
+            RegionState::Below(s) if begins(BORDER, &self.below, s, byte) => (
+                class::BORDER,
+                RegionState::Inside(self.below.step(s, byte), 0),
+            ),
+            RegionState::Below(s) => {
+                let read = self.below.read(s, byte);
+                (read.class, RegionState::Below(read.behind))
+            }
+            RegionState::Inside(t, u) if begins(BORDER, &self.inner, u, byte) => {
+                (class::BORDER, RegionState::Below(t))
+            }
+            RegionState::Inside(t, u) => {
+                let read = self.inner.read(u, byte);
+                (read.class, RegionState::Inside(t, read.behind))
+            }
         }
     }
 }
@@ -65,19 +101,24 @@ impl<G: Grammar, H: Grammar> Grammar for Region<G, H> {
         let Some(at) = self.state_of(state) else {
             return Step::outside(state);
         };
-        let n = self.below.count();
-        let m = self.inner.count();
-        let (class, behind) = match at {
-            RegionState::Below(s) if begins(BORDER, &self.below, s, byte) => {
-                (class::BORDER, n + m * self.below.step(s, byte))
-            }
-            RegionState::Below(s) => return self.below.read(s, byte),
-            RegionState::Inside(t, u) if begins(BORDER, &self.inner, u, byte) => (class::BORDER, t),
-            RegionState::Inside(t, u) => {
-                let read = self.inner.read(u, byte);
-                (read.class, n + m * t + read.behind)
-            }
+        let (class, behind) = self.read_at(at, byte);
+        Step {
+            class,
+            behind: self.number_of(behind),
+        }
+    }
+
+    // The state's number is taken apart once, and not for each byte.
+    fn colour_cells(&self, state: u8, cells: &mut [u8]) -> u8 {
+        let Some(mut at) = self.state_of(state) else {
+            cells.fill(class::BLANK);
+            return state;
         };
-        Step { class, behind }
+        for cell in cells.iter_mut() {
+            let (class, behind) = self.read_at(at, *cell);
+            *cell = class;
+            at = behind;
+        }
+        self.number_of(at)
     }
 }
