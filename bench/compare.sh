@@ -1,6 +1,6 @@
 #!/bin/sh
-# Builds the plain Rust program and the program bench, runs both, and prints their medians side by side and a table of ratios.
-# It needs rustc and rt on the path.
+# Builds the plain Rust program and the program bench, runs both fifteen times in turns, and prints their medians side by side and a table
+# of ratios; of each median the least, as a machine may slow down while one of them runs. It needs rustc and rt on the path.
 set -e
 top=$(cd "$(dirname "$0")/.." && pwd)
 made=$(mktemp -d)
@@ -9,8 +9,10 @@ trap 'rm -rf "$made"' EXIT
 rustc -O --edition 2021 "$top/bench/main.rs" -o "$made/plain"
 (cd "$top/crates/bench" && rt run) > "$made/built" 2>&1 || { cat "$made/built" >&2; exit 1; }
 
-"$top/crates/bench/out/bench" run | grep '^[0-9]' > "$made/server.txt"
-"$made/plain" > "$made/plain.txt"
+for turn in $(seq 15); do
+    "$top/crates/bench/out/bench" run | grep '^[0-9]' >> "$made/server.txt"
+    "$made/plain" >> "$made/plain.txt"
+done
 
 awk '
 function time_of(from, size, what) {
@@ -34,8 +36,8 @@ function row(name, first, second, most,    ratio, aim, verdict) {
 }
 function grown(name, what) { row(name " in the long text, in the short one", time_of("server", long, what), time_of("server", short, what), 2) }
 FNR == 1 { from = from == "" ? "server" : "plain" }
-{ took[from, $1, $2] = $3 }
-from == "server" && $2 == "checksum" { sizes[++count] = $1 }
+from == "server" && $2 == "checksum" && !((from, $1, $2) in took) { sizes[++count] = $1 }
+!((from, $1, $2) in took) || $3 < took[from, $1, $2] { took[from, $1, $2] = $3 }
 from == "plain" && $2 == "checksum" && time_of("server", $1, $2) != $3 { print "the texts differ" > "/dev/stderr"; exit 1 }
 END {
     short = sizes[1]; long = sizes[3]
