@@ -1,7 +1,7 @@
 -- The line ends of a part of a text, block by block.
-use Rattle.std.proofs.Common.{◌≡◌, ℕ, ◌+◌, ◌-◌, ◌<◌, ◌≤◌, min, Bool, true, false, cond, List, ◌++◌, length, take, drop, sym, refl, ap, ◌∙◌, arith, length-take, length-drop}
+use Rattle.std.proofs.Common.{◌≡◌, ℕ, ◌+◌, ◌-◌, ◌<◌, ◌≤◌, min, Bool, true, false, cond, List, [], ◌∷◌, ◌++◌, length, get_or, take, drop, sym, refl, ap, ◌∙◌, arith, length-take, length-drop}
 use Rattle.std.specs.List.{between, filter}
-use Rattle.std.proofs.lemmas.List.{take_min, take_at, drop-append-le}
+use Rattle.std.proofs.lemmas.List.{take_more, take_min, take_at, drop-append-le}
 use Rattle.std.proofs.lemmas.List.Edits.{length-between}
 use Rattle.std.proofs.lemmas.List.Sums.{length-filter}
 use Rattle.std.proofs.lemmas.List.Recursion.{is_count_by}
@@ -22,6 +22,17 @@ one_more false n = omega arith
 -- The line ends are the bytes that end a line.
 pub ends_counted : (bytes : List ℕ) → length (filter ends_line bytes) ≡ line_ends bytes
 ends_counted bytes = length-filter ends_line bytes ∙ sym (is_count_by line_ends ends_line refl (λ b bs. one_more (ends_line b) (line_ends bs)) bytes)
+
+-- How many line ends a byte counts.
+abbrev pub counted : Bool → ℕ
+counted ends = cond ends 1 0
+
+-- One byte more.
+pub one_byte_more : (bytes : List ℕ) (i : ℕ) → i < length bytes → line_ends (take (i + 1) bytes) ≡ line_ends (take i bytes) + counted (ends_line (get_or bytes i 0))
+one_byte_more bytes i h =
+    let byte = get_or bytes i 0 in
+    let last : line_ends (byte ∷ []) ≡ counted (ends_line byte) = omega arith in
+    ap line_ends (take_more bytes i 0 h) ∙ line_ends_append (take i bytes) (byte ∷ []) ∙ ap (λ n. line_ends (take i bytes) + n) last
 
 -- No more line ends than bytes.
 pub ends_few : (bytes : List ℕ) (i : ℕ) → line_ends (take i bytes) ≤ i
@@ -51,7 +62,7 @@ pub block_counted : {R : Type 0} (T : ChunkTree R) (from at end next : ℕ) (out
 block_counted T from at end next out after r count ends answer is f below inside next-is room so-far more =
     let block = block_front T at next out after r answer is (omega arith) (omega arith) room in
     let here : min at end ≡ at = omega arith in
-    let counted = so-far ∙ ap (λ n. line_ends (between from n (text_in T))) here in
+    let all = so-far ∙ ap (λ n. line_ends (between from n (text_in T))) here in
     omega (arith, block_more (text_in T) from at next f (omega arith) (omega arith))
 
 -- Blocks up to the end of the text, or of the part.

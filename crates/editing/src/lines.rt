@@ -11,7 +11,14 @@ use tree::ChunkTree;
 pub fn line_ends_of(bytes: &[u8]) -> usize
     ensures { result ≡ line_ends bytes.now }
 {
-    bytes.iter().filter(|byte| ends_line(**byte)).count()
+    // A loop: a filter that is counted takes more than one and a half times as long.
+    let mut count = 0;
+    for byte in bytes {
+        if ends_line(*byte) {
+            count += 1;
+        }
+    }
+    count
 }
 
 // How many of the bytes from `from` up to `to`, or to the end of the text, end a line. They are copied in blocks of 64.

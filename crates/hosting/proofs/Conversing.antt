@@ -1,12 +1,13 @@
 -- The lines of an input are read off its front one by one, and what they do is added to what was done before.
-use Rattle.std.proofs.Common.{◌≡◌, ℕ, ◌+◌, ◌-◌, ◌^◌, ◌<◌, ◌≤◌, Bool, true, false, eqb, ltb, cond, ◌&&◌, List, [], ◌∷◌, ◌++◌, None, Some, Option, Ok, Err, Result, IfSome, is_ok, length, take, drop, get_or, refl, sym, ap, subst, subst₂, ◌∙◌, arith, length-append, append-nil, append_assoc, take_all}
+use Rattle.std.proofs.Common.{◌≡◌, ◌≢◌, ℕ, ◌+◌, ◌-◌, ◌^◌, ◌<◌, ◌≤◌, Bool, true, false, eqb, cond, ◌&&◌, List, [], ◌∷◌, ◌++◌, None, Some, Option, Ok, Err, IfSome, is_ok, length, take, drop, get_or, refl, sym, ap, subst, subst₂, ◌∙◌, arith, length-append, append-nil, append_assoc, take_all}
+use Rattle.std.proofs.BufReadLemmas.{take_through_nonempty}
 use Rattle.std.proofs.KnownBytes.{Appends-nil, Appends-trans}
-use Rattle.std.proofs.lemmas.Bool.{and_parts, false≢true, eqb-true, eqb-false, eq-eqb, ltb-true, lt-ltb}
+use Rattle.std.proofs.lemmas.Bool.{eqb-true, eqb-false}
+use Rattle.std.proofs.lemmas.Grind.{get_or_default_zero}
 use Rattle.std.proofs.lemmas.List.{take_more}
 use Rattle.std.proofs.Math.Bool.{and_assoc, and-true}
 use Rattle.std.proofs.Math.Seq.{get_or-append_seam, take-append_seam}
-use Rattle.std.specs.Io.BufRead.{take_through, drop_through, DropsThrough, ends_with_byte, first_piece}
-use Rattle.std.specs.Io.Iter.{YieldsKnownPiece}
+use Rattle.std.specs.Io.BufRead.{take_through, drop_through, DropsThrough}
 use Rattle.std.specs.Io.KnownBytes.{Appends, IsAtEnd}
 use Rattle.automaton.specs.Automaton.{Automaton}
 use Rattle.measure.specs.Measure.{Measure}
@@ -47,35 +48,34 @@ last_at : (xs : List ℕ) → 0 < length xs → LastAt xs
 last_at [] some none = absurd (omega (arith, some))
 last_at (x ∷ xs) some none = last_at_more x xs (eqb x 10) refl (λ more. last_at xs more) none
 
-ends_so : (read line : List ℕ) → read ≡ line ++ 10 ∷ [] → ends_with_byte 10 read ≡ true
+ends_so : (read line : List ℕ) → read ≡ line ++ 10 ∷ [] → get_or read (length read - 1) 0 ≡ 10
 ends_so read line e =
-    let long = ap length e ∙ length-append line (10 ∷ []) in
-    let at : length read - 1 ≡ length line = omega (arith, long) in
-    let last : get_or read (length read - 1) 0 ≡ 10 = ap (λ n. get_or read n 0) at ∙ ap (λ l. get_or l (length line) 0) e ∙ get_or-append_seam line 10 [] 0 in
-    rw (lt-ltb 0 (length read) (omega (arith, long)), eq-eqb (get_or read (length read - 1) 0) 10 last)
+    let at : length read - 1 ≡ length line = omega (arith, ap length e, length-append line (10 ∷ [])) in
+    ap (λ n. get_or read n 0) at ∙ ap (λ l. get_or l (length line) 0) e ∙ get_or-append_seam line 10 [] 0
 
--- What is split off the front of an input is its first line.
-piece_by : (xs : List ℕ) (b : Bool) → ends_with_byte 10 (take_through 10 xs) ≡ b → 0 < length xs →
-    lines_of xs ≡ cond b (take (length (take_through 10 xs) - 1) (take_through 10 xs)) (take_through 10 xs) ∷ lines_of (drop_through 10 xs)
-piece_by xs true e some =
-    let read = take_through 10 xs in
+-- The last byte, as it is looked at.
+last_byte : (read : List ℕ) (count last : ℕ) → last ≡ get_or read (count - 1) last → count ≡ length read → count ≢ 0 → last ≡ get_or read (length read - 1) 0
+last_byte read count last there counted some = there ∙ ap (λ n. get_or read (n - 1) last) counted ∙ get_or_default_zero read (length read - 1) last (omega (arith, counted, some))
+
+-- A line that was read with its line feed, and one that was read without one, into a place that was empty.
+pub reads_line : (input left : Option (List ℕ)) (place read line : List ℕ) (long count last : ℕ) → line ≡ take (long - 1) read → IfSome input (λ xs. read ≡ place ++ take_through 10 xs) → DropsThrough input left 10
+    → last ≡ get_or read (count - 1) last → place ≡ [] → long ≡ length read → count ≡ length read → count ≢ 0 → last ≡ 10 → ReadsLines input left (line ∷ [])
+reads_line None left place read line long count last cut is rest there empty whole counted some feed = tt
+reads_line (Some xs) left place read line long count last cut is rest there empty whole counted some feed =
     let n = length read in
-    let parts = and_parts (ltb 0 n) (eqb (get_or read (n - 1) 0) 10) e in
-    let long : 0 < n = ltb-true 0 n parts.0 in
-    let split : read ≡ take (n - 1) read ++ get_or read (n - 1) 0 ∷ [] = sym (take_all (n - 1 + 1) read (omega (arith, long))) ∙ take_more read (n - 1) 0 (omega (arith, long)) in
-    line_at xs (take (n - 1) read) (split ∙ ap (λ b. take (n - 1) read ++ b ∷ []) (eqb-true (get_or read (n - 1) 0) 10 parts.1))
-piece_by xs false e some = last_at xs some (λ line is. false≢true (sym e ∙ ends_so (take_through 10 xs) line is))
+    let split : read ≡ take (n - 1) read ++ get_or read (n - 1) 0 ∷ [] = sym (take_all (n - 1 + 1) read (omega (arith, counted, some))) ∙ take_more read (n - 1) 0 (omega (arith, counted, some)) in
+    let ends : read ≡ line ++ 10 ∷ [] =
+    split ∙ ap (λ b. take (n - 1) read ++ b ∷ []) (sym (last_byte read count last there counted some) ∙ feed) ∙ ap (λ l. l ++ 10 ∷ []) (ap (λ k. take (k - 1) read) (sym whole) ∙ sym cut) in
+    subst (λ l. ReadsLines (Some xs) l (line ∷ [])) (sym rest) (line_at xs line (sym (is ∙ ap (λ l. l ++ take_through 10 xs) empty) ∙ ends))
 
-pub reads_piece : (input left : Option (List ℕ)) (line : List ℕ) → IfSome input (λ xs. (0 < length xs) × (line ≡ first_piece 10 xs)) → DropsThrough input left 10 → ReadsLines input left (line ∷ [])
-reads_piece None left line is rest = tt
-reads_piece (Some xs) left line is rest =
-    subst (λ l. ReadsLines (Some xs) l (line ∷ [])) (sym rest) (piece_by xs (ends_with_byte 10 (take_through 10 xs)) refl is.0 ∙ ap (λ l. l ∷ lines_of (drop_through 10 xs)) (sym is.1))
-
-pub next_line : {X E : Type 0} (bytes : X → List ℕ) (input left : Option (List ℕ)) (byte : ℕ) (read : Result X E) (x : X) → byte ≡ 10 → read ≡ Ok x → YieldsKnownPiece bytes (first_piece byte) byte input (Some read) left →
-    ReadsLines input left (bytes x ∷ [])
-next_line {X} {E} bytes input left byte read x at ok piece =
-    let known = subst₂ (λ b (r : Result X E). YieldsKnownPiece bytes (first_piece b) b input (Some r) left) at ok piece in
-    reads_piece input left (bytes x) known.0 known.1
+pub reads_last : (input left : Option (List ℕ)) (place read : List ℕ) (count last : ℕ) → place ≡ [] → IfSome input (λ xs. read ≡ place ++ take_through 10 xs) → DropsThrough input left 10
+    → last ≡ get_or read (count - 1) last → count ≡ length read → count ≢ 0 → last ≢ 10 → ReadsLines input left (read ∷ [])
+reads_last None left place read count last empty is rest there counted some other = tt
+reads_last (Some xs) left place read count last empty is rest there counted some other =
+    let all : read ≡ take_through 10 xs = is ∙ ap (λ l. l ++ take_through 10 xs) empty in
+    let long : 0 < length (take_through 10 xs) = omega (arith, ap length all, counted, some) in
+    subst (λ l. ReadsLines (Some xs) left (l ∷ [])) (sym all) (subst (λ l. ReadsLines (Some xs) l (take_through 10 xs ∷ [])) (sym rest)
+    (last_at xs (take_through_nonempty 10 xs long) (λ line e. other (last_byte read count last there counted some ∙ ends_so read line (all ∙ e)))))
 
 reads_none : (input : Option (List ℕ)) → ReadsLines input input []
 reads_none None = tt

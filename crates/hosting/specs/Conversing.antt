@@ -1,7 +1,7 @@
 -- The lines of a session, one after another: what each of them does, and what is written.
 -- The lines are numbered from 1. One that cannot be read is told with its number, and changes nothing.
 use Rattle.std.specs.Prelude.{◌≡◌, ℕ, ◌+◌, ◌-◌, ◌^◌, Bool, true, cond, ◌&&◌, List, [], ◌∷◌, ◌++◌, take, ⊤, Some, None, Option, Ok, Err, IfSome, is_ok, codes, decimal, ◌==◌}
-use Rattle.std.specs.Io.KnownBytes.{Appends}
+use Rattle.std.specs.Io.KnownBytes.{Appends, IsAtEnd}
 use Rattle.automaton.specs.Automaton.{Automaton}
 use Rattle.measure.specs.Measure.{Measure}
 use Rattle.document.specs.Snapshot.{Snapshot}
@@ -70,3 +70,7 @@ abbrev pub ReadsLines : Option (List ℕ) → Option (List ℕ) → List (List �
 ReadsLines None left lines = ⊤
 ReadsLines (Some bytes) None lines = ⊥
 ReadsLines (Some bytes) (Some others) lines = lines_of bytes ≡ lines ++ lines_of others
+
+-- The next line was read, if there was one.
+abbrev pub ReadsNext : Bool → Option (List ℕ) → Option (List ℕ) → List ℕ → Type 0
+ReadsNext some input left line = cond some (ReadsLines input left (line ∷ [])) (IsAtEnd input)

@@ -5,7 +5,7 @@ ghost use Rattle.document.specs.Content.{Keeps};
 ghost use Rattle.document.specs.Snapshot.{seen, SameDesk};
 ghost use Rattle.session.specs.Asked.{meaning};
 ghost use Rattle.hosting.specs.Replies.{host_scale};
-ghost use Rattle.hosting.specs.Conversing.{problem_line, answer_line as line_of_answer, AnswersLine, Conversation};
+ghost use Rattle.hosting.specs.Conversing.{problem_line, answer_line as line_of_answer, AnswersLine, ReadsNext, Conversation};
 
 use crate::host::Host;
 use document::{Desk, Document};
@@ -31,6 +31,23 @@ fn write_answer<W: Write>(answer: Option<Vec<u8>>, out: &mut W) -> io::Result<()
         out.write_all(&line)?;
     }
     Ok(())
+}
+
+// Reads the next line in the place of another, without its line feed; says whether there is one.
+// All lines of a session are read into one place: `split` makes each of them on the heap and lets it go.
+#[tactic(auto, using(crate::proofs::Conversing::reads_line, crate::proofs::Conversing::reads_last))]
+fn read_line<R: BufRead>(lines: &mut R, line: &mut Vec<u8>) -> io::Result<bool>
+    ensures { IfOk result (λ some. ReadsNext some (R.remaining lines.old) (R.remaining lines.new) line.new.items) }
+{
+    line.clear();
+    let count = lines.read_until(b'\n', line)?;
+    if count == 0 {
+        return Ok(false);
+    }
+    if line[count - 1] == b'\n' {
+        line.pop();
+    }
+    Ok(true)
 }
 
 impl<G: Grammar> Host<'_, G> {
@@ -70,8 +87,11 @@ impl<G: Grammar> Host<'_, G> {
     {
         // A yes or no that is only joined and tested: an enum of two would be turned into a bool at both places.
         let mut readable = true;
-        for (number, line) in (1..u64::MAX).zip(lines.split(self.heap, b'\n')) {
-            let line = line?;
+        let mut line = Vec::new(self.heap);
+        for number in 1..u64::MAX {
+            if !read_line(lines, &mut line)? {
+                break;
+            }
             let read = read_request(self.heap, &line)?;
             readable &= read.is_ok();
             self.answer_line(document, desk, number, read, out)?;

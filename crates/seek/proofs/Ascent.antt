@@ -1,5 +1,5 @@
 -- A search from behind over parts of a text, and the parts that a subtree's text has before a place.
-use Rattle.std.proofs.Common.{◌≡◌, ℕ, ◌+◌, ◌-◌, ◌≤◌, true, false, List, ◌++◌, length, take, Option, sym, ap, ◌∙◌, subst, ⊎_elim, arith}
+use Rattle.std.proofs.Common.{◌≡◌, ℕ, ◌+◌, ◌-◌, ◌≤◌, true, false, List, [], ◌∷◌, ◌++◌, length, take, Option, refl, sym, ap, ◌∙◌, subst, ⊎_elim, arith}
 use Rattle.std.proofs.lemmas.List.{take_all, length-append}
 use Rattle.std.proofs.lemmas.Bool.{cases_lt}
 use Rattle.measure.specs.Measure.{Measure, reading}
@@ -14,6 +14,11 @@ use Rattle.questions.specs.Parted.{Apart}
 use Rattle.questions.specs.Under.{text_under, KeptUnder}
 use Rattle.seek.proofs.Found.{Found}
 use Rattle.seek.proofs.Parting.{parts_cut}
+
+-- The forward state behind two texts is that behind the second, from the state behind the first.
+pub forwards_append : {F : Type 0} (fore : F → ℕ → F) (f : F) (xs ys : List ℕ) → forwards fore f (xs ++ ys) ≡ forwards fore (forwards fore f xs) ys
+forwards_append fore f [] ys = refl
+forwards_append fore f (x ∷ xs) ys = forwards_append fore (fore f x) xs ys
 
 module _ {F A : Type 0} (fore : F → ℕ → F) (back : F → ℕ → A → Option A) where
   -- The forward states before the parts, from those behind the whole of what lies before them.

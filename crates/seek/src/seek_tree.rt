@@ -2,6 +2,7 @@
 ghost use Rattle.std.specs.Prelude.{◌≡◌, ◌≤◌, length, drop};
 ghost use Rattle.measure.specs.Measure.{reading as reading_of};
 ghost use Rattle.search.specs.Forwards.{stop};
+ghost use Rattle.seek.specs.Passes.{Passes};
 ghost use Rattle.questions.specs.Under.{text_under, KeptUnder};
 
 use crate::forward::Forward;
@@ -30,6 +31,21 @@ fn seek_chunk<S: Forward>(
     seek_bytes(search, at, &chunk[from..])
 }
 
+// What one look at the reading kept of all of a tree says, where the search begins with its first byte.
+fn pass_tree<S: Forward>(
+    search: &S,
+    tree: Subtree<'_, '_, S::Reading>,
+    place: usize,
+    at: S::At,
+) -> Option<S::At>
+    ensures { KeptUnder tree.entry (S.scale search.now) → Passes (S.goes search.now) at (drop place (text_under tree.entry)) result }
+{
+    if place > 0 {
+        return None;
+    }
+    search.pass(at, tree.kept()?)
+}
+
 // Where the search comes to in the text of a tree, from a place on.
 pub fn seek<S: Forward>(
     search: &S,
@@ -44,11 +60,8 @@ pub fn seek<S: Forward>(
     if place >= bytes {
         return ran_through(0, at);
     }
-    if place == 0
-        && let Some(kept) = tree.kept()
-        && let Some(behind) = search.pass(at, kept)
-    {
-        return ran_through(bytes, behind);
+    if let Some(behind) = pass_tree(search, tree, place, at) {
+        return ran_through(bytes - place, behind);
     }
     let Some(parts) = tree.parts() else {
         return ran_through(0, at);

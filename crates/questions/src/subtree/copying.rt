@@ -19,6 +19,8 @@ fn paste(bytes: &[u8], out: &mut [u8], at: usize) -> usize
 
 impl<R: Copy> Subtree<'_, '_, R> {
     // Copies the bytes in the range into `out` from `at` on, where there is room; gives the place behind them.
+    #[inline(always)]
+    #[cycle(copy)]
     pub fn copy(self, span: Span, out: &mut [u8], at: usize) -> usize
         requires { at + length (within span (text_under self)) ≤ length out.old }
         ensures { Copied (within span (text_under self.entry)) out.old at out.new result }
@@ -26,6 +28,15 @@ impl<R: Copy> Subtree<'_, '_, R> {
         if span.from >= span.to || span.from >= self.bytes() {
             return at;
         }
+        self.copy_parts(span, out, at)
+    }
+
+    // The same, part by part.
+    #[cycle(copy)]
+    fn copy_parts(self, span: Span, out: &mut [u8], at: usize) -> usize
+        requires { at + length (within span (text_under self)) ≤ length out.old }
+        ensures { Copied (within span (text_under self.entry)) out.old at out.new result }
+    {
         let Some(parts) = self.parts() else {
             return at;
         };

@@ -9,12 +9,23 @@ use crate::subtree::Subtree;
 
 impl<R: Copy> Subtree<'_, '_, R> {
     // What follows the bytes in the range in `given`, where it begins with them.
+    // In line, as `copy` is: the range has nothing of every other side, which is then seen without a call.
+    #[inline(always)]
+    #[cycle(strip)]
     pub fn strip<'g>(self, span: Span, given: &'g [u8]) -> Option<&'g [u8]>
         ensures { Stripped (within span (text_under self.entry)) given.now result }
     {
         if span.from >= span.to || span.from >= self.bytes() {
             return Some(given);
         }
+        self.strip_parts(span, given)
+    }
+
+    // The same, part by part.
+    #[cycle(strip)]
+    fn strip_parts<'g>(self, span: Span, given: &'g [u8]) -> Option<&'g [u8]>
+        ensures { Stripped (within span (text_under self.entry)) given.now result }
+    {
         let Some(parts) = self.parts() else {
             return Some(given);
         };

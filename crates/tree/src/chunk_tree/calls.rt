@@ -54,7 +54,12 @@ impl<'a, R: Copy> ChunkTree<'a, R> {
             from: from as usize,
             to: to as usize,
         };
-        self.tree().narrowed(span)
+        let whole = self.tree();
+        // An empty range lies in any part: there is no way down to go.
+        if from >= to {
+            return (whole, span);
+        }
+        whole.narrowed(span)
     }
 
     // How large it is.

@@ -1,11 +1,15 @@
-use Rattle.std.proofs.Common.{◌∙◌, rules, tests}
-use Rattle.std.proofs.lemmas.Iterator.{YieldsList-from_slice}
-use Rattle.std.proofs.lemmas.Iterator.Consumers.{YieldsList-from_filter, count_from_yields_List}
-use Rattle.measure.specs.Place.{ends_line}
-use Rattle.editing.proofs.LinesBetween.{ends_counted}
+use Rattle.std.proofs.Common.{◌∙◌, sym, ap, arith}
+use Rattle.editing.proofs.LinesBetween.{counted, one_byte_more, ends_few}
 use Rattle.editing.proofs.lines.line_ends_of.Goals as goal
+use Rattle.editing.proofs.lines.line_ends_of.Goals.{then-ends_line, else-ends_line}
 
-pub returns : goal.returns
-returns c =
-    count_from_yields_List c.filter.result c.count.result c.count.ensures.ran (YieldsList-from_filter _ ends_line (YieldsList-from_slice c.args.bytes.now cc) c.filter.ensures.closure (λ x r q k. search (rules, tests)))
-    ∙ ends_counted c.args.bytes.now
+pub overflow_add-count : goal.overflow_add-count
+overflow_add-count c = omega (arith, ends_few c.args.bytes.now c.loop-byte.byte-index)
+
+pub loop-byte-preserved : goal.loop-byte-preserved
+loop-byte-preserved c =
+    let more = one_byte_more c.args.bytes.now c.loop-byte.byte-index c.loop-byte-test.true in
+    elim c.if-ends_line.branch [
+      | then-ends_line w ↦ let one = ap counted (sym c.ends_line.ensures ∙ w.if-ends_line.true) in omega (arith, more, one)
+      | else-ends_line w ↦ let none = ap counted (sym c.ends_line.ensures ∙ w.if-ends_line.false) in omega (arith, more, none)
+    ]

@@ -8,13 +8,13 @@ use Rattle.questions.proofs.Cutting.{range_parts}
 use Rattle.questions.proofs.Stripping.{first_missing, first_stripped}
 use Rattle.questions.proofs.subtree.Subtree.+strip.Goals as goal
 
-pub returns-in_err-behind_left : goal.returns-in_err-behind_left
-returns-in_err-behind_left g t c =
+pub strip_parts-returns-in_err-behind_left : goal.strip_parts-returns-in_err-behind_left
+strip_parts-returns-in_err-behind_left g t c =
     rw (c.from_residual.ensures, range_parts c.in-Some.ensures c.args.span _ _ c.cut.ensures.own c.cut.ensures.rest)
     (first_missing _ _ c.args.given.now c.in_err-behind_left.ensures)
 
-pub returns-in_err-behind_own : goal.returns-in_err-behind_own
-returns-in_err-behind_own g t c =
+pub strip_parts-returns-in_err-behind_own : goal.strip_parts-returns-in_err-behind_own
+strip_parts-returns-in_err-behind_own g t c =
     let given = c.in_ok-behind_left.behind_left in
     let own = within c.cut.result.0 c.in-Some.parts.chunk.now in
     let rest = within c.cut.result.1 (text_under c.in-Some.parts.right) in
@@ -22,8 +22,8 @@ returns-in_err-behind_own g t c =
     rw (c.from_residual-in_err-behind_own.ensures, range_parts c.in-Some.ensures c.args.span _ _ c.cut.ensures.own c.cut.ensures.rest)
     (first_stripped _ _ c.args.given.now given c.in_ok-behind_left.ensures None (first_missing own rest given.now missing))
 
-pub returns : goal.returns
-returns g t c =
+pub strip_parts-returns : goal.strip_parts-returns
+strip_parts-returns g t c =
     let given = c.in_ok-behind_left.behind_left in
     let behind = c.in_ok-behind_own.behind_own in
     let own = within c.cut.result.0 c.in-Some.parts.chunk.now in

@@ -1,4 +1,4 @@
 use Rattle.tree.proofs.chunk_tree.ChunkTree.part.Goals as goal
 
 pub returns-clause-keeps : goal.returns-clause-keeps
-returns-clause-keeps g c μ k = c.narrowed.ensures.keeps μ (c.tree.ensures.keeps μ k)
+returns-clause-keeps g c μ k = c.narrowed.ensures.keeps μ (c.tree-whole.ensures.keeps μ k)
